@@ -1,0 +1,74 @@
+-- A document byte by byte. Of a text line at most 4,097 bytes are kept, and their number.
+use Rattle.std.specs.Prelude.{ℕ, ◌+◌, List, [], ◌∷◌, ◌++◌, length, Bool, false, ◌||◌, if◌then◌else◌, nat_lt, nat_eq}
+use Rattle.definitions.specs.declared.outcome.Outcome.{Outcome}
+use Rattle.definitions.specs.Endings.{outcomes_text}
+use Rattle.definitions.specs.Trace.{Reading, Step, is_over, input_limit, text_read, line_read, stage_ends, Given, behind, ended}
+
+-- behind the whole text lines: the front of the text line that has begun, and how many bytes it has
+pub record Feed : Type 0 where
+  pub reading : Reading
+  pub kept : List ℕ
+  pub size : ℕ
+
+-- no text line has begun
+abbrev pub opened : Reading → Feed
+opened r = record { reading = r; kept = []; size = 0 }
+
+-- a byte taken: where it leads, and the outcome lines that it wrote
+pub record Fed : Type 0 where
+  pub next : Feed
+  pub lines : List Outcome
+
+-- the byte that ends a text line
+abbrev pub line_fed : Step → Fed
+line_fed x = record { next = opened x.next; lines = x.lines }
+
+-- one byte more of a text line, where there is room
+abbrev pub kept_on : List ℕ → ℕ → List ℕ
+kept_on kept b = if nat_lt (length kept) 4097 then kept ++ b ∷ [] else kept
+
+-- one byte more
+unfoldable pub fed : Feed → ℕ → Fed
+fed f b =
+    if is_over f.reading.stage then record { next = f; lines = [] }
+    else if nat_lt input_limit (f.reading.bytes + (f.size + 1)) then line_fed (text_read f.reading (f.size + 1) f.kept)
+    else if nat_eq b 10 then line_fed (text_read f.reading (f.size + 1) f.kept)
+    else record { next = record f { kept = kept_on f.kept b; size = f.size + 1 }; lines = [] }
+
+-- the end of the input
+unfoldable pub closed : Feed → Step
+closed f = if nat_eq f.size 0 then record { next = f.reading; lines = [] } else text_read f.reading f.size f.kept
+
+-- what further bytes give
+unfoldable pub fed_gives : Feed → List ℕ → Given
+fed_gives f [] = behind (outcomes_text (closed f).lines) (ended (stage_ends (closed f).next.number (closed f).next.stage))
+fed_gives f (b ∷ bytes) = behind (outcomes_text (fed f b).lines) (fed_gives (fed f b).next bytes)
+
+-- where a piece leads
+unfoldable pub feds : Feed → List ℕ → Feed
+feds f [] = f
+feds f (b ∷ bytes) = feds (fed f b).next bytes
+
+-- the outcome lines that a piece writes
+unfoldable pub feds_text : Feed → List ℕ → List ℕ
+feds_text f [] = []
+feds_text f (b ∷ bytes) = outcomes_text (fed f b).lines ++ feds_text (fed f b).next bytes
+
+-- the bytes taken
+abbrev pub total : Feed → ℕ
+total f = f.reading.bytes + f.size
+
+-- an LF is among the bytes
+unfoldable pub ends_lf : List ℕ → Bool
+ends_lf [] = false
+ends_lf (b ∷ bytes) = nat_eq b 10 || ends_lf bytes
+
+-- the text lines that an LF ends
+unfoldable pub whole_lines : List (List ℕ) → List (List ℕ)
+whole_lines [] = []
+whole_lines (line ∷ lines) = if ends_lf line then line ∷ whole_lines lines else []
+
+-- the outcome lines of text lines
+unfoldable pub lines_text : Reading → List (List ℕ) → List ℕ
+lines_text r [] = []
+lines_text r (line ∷ lines) = outcomes_text (line_read r line).lines ++ lines_text (line_read r line).next lines

@@ -1,0 +1,14 @@
+pub mod Lines
+pub mod Grammar
+pub mod Track
+pub mod Rules
+pub mod Story
+pub mod World
+pub mod Control
+pub mod Authority
+pub mod Limit
+pub mod Premises
+pub mod Steps
+pub mod Safe
+pub mod Endings
+pub mod Trace

@@ -1,0 +1,3 @@
+pub mod Throughout
+pub mod Whole
+mod Worked

@@ -1,0 +1,64 @@
+-- A document that says items and, with or without the word, events.
+use Rattle.std.specs.Prelude.{◌≡◌, ℕ, ◌≤◌, List, [], ◌∷◌, ◌++◌, length, map, reverse, flat_map, Bool, true, false, count_by}
+use Rattle.definitions.specs.declared.item.Item.{Item}
+use Rattle.definitions.specs.declared.event.Event.{Event}
+use Rattle.definitions.specs.declared.document.TextLine.{TextLine}
+use Rattle.definitions.specs.declared.document.TextLine.TheVariants as says
+use Rattle.definitions.specs.declared.document.Ending.{Ending}
+use Rattle.definitions.specs.declared.document.Ending.TheVariants as ends
+use Rattle.definitions.specs.Lines.{text_lines, text_of}
+use Rattle.definitions.specs.Grammar.{line_of}
+use Rattle.definitions.specs.Rules.{finish_rule, is_any_zone, builds}
+use Rattle.definitions.specs.Story.{Entry as Made, Story}
+use Rattle.definitions.specs.Steps.{story_of}
+use Rattle.definitions.specs.Safe.{Kept}
+use Rattle.definitions.specs.Endings.{outcomes_text, ending_text}
+use Rattle.definitions.specs.Trace.{Given, input_limit}
+
+-- what a text line says, before what more lines say
+abbrev pub saying : TextLine → List TextLine → List TextLine
+saying says.Passed more = more
+saying says.Script more = says.Script ∷ more
+saying says.Strange more = says.Strange ∷ more
+saying (says.Item i) more = says.Item i ∷ more
+saying (says.Event e) more = says.Event e ∷ more
+
+-- what text lines say, those left out that are passed over
+unfoldable pub said : List (List ℕ) → List TextLine
+said [] = []
+said (line ∷ lines) = saying (line_of (text_of line)) (said lines)
+
+-- within the limit: the items make a line of at most one zone, and the events keep the premises
+pub record IsDocument (bytes : List ℕ) (items : List Item) (events : List Event) : Type 0 where
+  pub says_ : said (text_lines bytes) ≡ map says.Item items ++ says.Script ∷ map says.Event events
+  pub builds : builds [] items ≡ true
+  pub one : count_by is_any_zone items ≤ 1
+  pub finished : finish_rule items ≡ 0
+  pub kept : Kept items (reverse events)
+  pub within : length bytes ≤ input_limit
+
+-- within the limit: the items make a line of at most one zone, and the word does not come
+pub record IsDocumentWithoutScript (bytes : List ℕ) (items : List Item) : Type 0 where
+  pub says_ : said (text_lines bytes) ≡ map says.Item items
+  pub builds : builds [] items ≡ true
+  pub one : count_by is_any_zone items ≤ 1
+  pub finished : finish_rule items ≡ 0
+  pub within : length bytes ≤ input_limit
+
+-- the outcome lines of a story, the oldest first
+abbrev pub story_text : Story → List ℕ
+story_text s = flat_map (λ (e : Made). outcomes_text e.lines) (reverse s)
+
+-- the story's outcome lines, and the number of its events
+abbrev pub whole : List Item → List Event → Given
+whole items events = record {
+  text = story_text (story_of items (reverse events)) ++ ending_text (ends.Done (length events));
+  ending = ends.Done (length events);
+}
+
+-- an ending that refuses a text line
+abbrev pub refuses : Ending → Bool
+refuses (ends.Rule n r) = true
+refuses (ends.Premise n p) = true
+refuses (ends.Unbuilt n) = true
+refuses _ = false

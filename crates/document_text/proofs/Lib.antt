@@ -1,0 +1,2 @@
+pub mod Number_fits
+pub mod Outcomes

@@ -1,0 +1,23 @@
+-- The text of outcome lines and of parts, from their front.
+use Rattle.std.proofs.Common.{◌≡◌, ℕ, ◌-◌, ◌<◌, ◌≤◌, List, [], ◌∷◌, ◌++◌, length, take, drop, get_or, refl, sym, ap, arith}
+use Rattle.std.proofs.lemmas.List.{take_all}
+use Rattle.definitions.specs.declared.outcome.Outcome.{Outcome}
+use Rattle.definitions.specs.Endings.{outcome_text, outcomes_text}
+use Rattle.document_text.specs.declared.write.Part.{Part}
+use Rattle.document_text.specs.Parts.{part_text, parts_text}
+
+pub texts_none : (xs : List Outcome) → length xs < 1 → outcomes_text xs ≡ []
+texts_none [] h = refl
+texts_none (x ∷ xs) h = absurd (omega arith)
+
+pub texts_first : (xs : List Outcome) (d : Outcome) → 1 ≤ length xs → outcomes_text xs ≡ outcome_text (get_or xs 0 d) ++ outcomes_text (take (length xs - 1) (drop 1 xs))
+texts_first [] d h = absurd (omega arith)
+texts_first (x ∷ xs) d h = ap (λ ys. outcome_text x ++ outcomes_text ys) (sym (take_all (length (x ∷ xs) - 1) xs (omega arith)))
+
+pub parts_none : (xs : List Part) (last : List ℕ) → length xs < 1 → parts_text xs last ≡ last
+parts_none [] last h = refl
+parts_none (x ∷ xs) last h = absurd (omega arith)
+
+pub parts_first : (xs : List Part) (last : List ℕ) (d : Part) → 1 ≤ length xs → parts_text xs last ≡ part_text (get_or xs 0 d) ++ parts_text (take (length xs - 1) (drop 1 xs)) last
+parts_first [] last d h = absurd (omega arith)
+parts_first (x ∷ xs) last d h = ap (λ ys. part_text x ++ parts_text ys last) (sym (take_all (length (x ∷ xs) - 1) xs (omega arith)))

@@ -1,0 +1,5 @@
+//! The text of documents: what a text line says, and how outcomes and last lines are written.
+#![tactic(auto)]
+
+pub mod read;
+pub mod write;

@@ -1,0 +1,395 @@
+//! What a text line says.
+ghost use Rattle.std.specs.Prelude.{◌≡◌, ◌+◌, ◌-◌, ◌<◌, ◌≤◌, ◌^◌, IfSome};
+ghost use Rattle.arrayvec.specs.ArrayVec.{array_vec_len};
+ghost use Rattle.definitions.specs.Grammar.{number_at, digits_at, word_at, field_at, sign_at, end_at, ranged_at, step_in, step_at, is_sign, asked_at, zone_line, segment_line, joint_line, portal_line, buffer_line, script_line, train_line, entry_line, enter_line, ask_line, take_line, item_form, event_form, form_of, line_of};
+ghost use Rattle.document_text.specs.Sees.{Sees};
+
+use arrayvec::ArrayVec;
+use definitions::document::TextLine;
+use definitions::event::{Event, Kind};
+use definitions::item::{End, Item};
+use track_points::{Dir, DirSeg, SegId, TrainId, ZoneId};
+
+/// Further digits of a number, at most `more`.
+#[tactic(auto, unfolding(definitions::specs::Grammar::digits_at))]
+fn digits(so_far: u64, more: u64, bytes: &[u8]) -> Option<(u64, &[u8])>
+    requires small { so_far < 10 ^ (13 - more) }
+    requires most { more < 13 }
+    ensures { Sees (λ x. (x.0, x.1.now)) result (digits_at so_far more bytes.now) }
+{
+    let [byte, rest @ ..] = bytes else {
+        return Some((so_far, bytes));
+    };
+    match *byte {
+        b'0'..=b'9' => {
+            if more == 0 {
+                return None;
+            }
+            let digit = u64::from(*byte - b'0');
+            digits(10 * so_far + digit, more - 1, rest)
+        }
+        _ => Some((so_far, bytes)),
+    }
+}
+
+/// A decimal number.
+#[tactic(auto, unfolding(definitions::specs::Grammar::number_at))]
+fn number(bytes: &[u8]) -> Option<(u64, &[u8])>
+    ensures { Sees (λ x. (x.0, x.1.now)) result (number_at bytes.now) }
+{
+    let [first, rest @ ..] = bytes else {
+        return None;
+    };
+    if !first.is_ascii_digit() {
+        return None;
+    }
+    let more = if *first == b'0' { 0 } else { 12 };
+    digits(u64::from(*first - b'0'), more, rest)
+}
+
+/// A word, byte by byte.
+#[tactic(auto, unfolding(definitions::specs::Grammar::word_at))]
+fn word<'a>(want: &[u8], bytes: &'a [u8]) -> Option<&'a [u8]>
+    ensures { Sees (λ x. x.now) result (word_at want.now bytes.now) }
+{
+    let [w, ws @ ..] = want else {
+        return Some(bytes);
+    };
+    let [b, rest @ ..] = bytes else {
+        return None;
+    };
+    if *b == *w { word(ws, rest) } else { None }
+}
+
+/// A space, then a number.
+#[tactic(auto, unfolding(definitions::specs::Grammar::field_at))]
+fn field(bytes: &[u8]) -> Option<(u64, &[u8])>
+    ensures { Sees (λ x. (x.0, x.1.now)) result (field_at bytes.now) }
+{
+    let rest = word(b" ", bytes)?;
+    number(rest)
+}
+
+/// The sign of an end of a segment.
+#[tactic(auto, unfolding(definitions::specs::Grammar::sign_at))]
+fn sign(segment: u64, bytes: &[u8]) -> Option<(End, &[u8])>
+    ensures { Sees (λ x. (x.0, x.1.now)) result (sign_at segment bytes.now) }
+{
+    let [byte, rest @ ..] = bytes else {
+        return None;
+    };
+    match *byte {
+        b'+' => Some((
+            End {
+                segment,
+                dir: Dir::Up,
+            },
+            rest,
+        )),
+        b'-' => Some((
+            End {
+                segment,
+                dir: Dir::Down,
+            },
+            rest,
+        )),
+        _ => None,
+    }
+}
+
+/// A space, then an end of a segment.
+#[tactic(auto, unfolding(definitions::specs::Grammar::end_at))]
+fn end(bytes: &[u8]) -> Option<(End, &[u8])>
+    ensures { Sees (λ x. (x.0, x.1.now)) result (end_at bytes.now) }
+{
+    let (segment, rest) = field(bytes)?;
+    sign(segment, rest)
+}
+
+/// A space, then a number from `low` to `high`.
+#[tactic(auto, unfolding(definitions::specs::Grammar::ranged_at))]
+fn ranged(low: u64, high: u64, bytes: &[u8]) -> Option<(u64, &[u8])>
+    ensures seen { Sees (λ x. (x.0, x.1.now)) result (ranged_at low high bytes.now) }
+    ensures most { IfSome result (λ x. x.0 ≤ high) }
+{
+    let (n, rest) = field(bytes)?;
+    if low <= n && n <= high {
+        Some((n, rest))
+    } else {
+        None
+    }
+}
+
+/// The step that an end of a segment stands for.
+fn step_of(end: End, rest: &[u8]) -> Option<(DirSeg, &[u8])>
+    ensures { Sees (λ x. (x.0, x.1.now)) result (step_in (end, rest.now)) }
+{
+    if 1 <= end.segment && end.segment <= 32767 {
+        let seg = SegId(end.segment as u16);
+        Some((DirSeg { seg, dir: end.dir }, rest))
+    } else {
+        None
+    }
+}
+
+/// A space, then a step.
+#[tactic(auto, unfolding(definitions::specs::Grammar::step_at))]
+fn step(bytes: &[u8]) -> Option<(DirSeg, &[u8])>
+    ensures { Sees (λ x. (x.0, x.1.now)) result (step_at bytes.now) }
+{
+    let (end, rest) = end(bytes)?;
+    step_of(end, rest)
+}
+
+/// What is said, where nothing follows.
+fn whole(says: TextLine, rest: &[u8]) -> Option<TextLine>
+    ensures { result ≡ Rattle.definitions.specs.Grammar.whole says rest.now }
+{
+    match rest {
+        [] => Some(says),
+        [_, ..] => None,
+    }
+}
+
+/// A zone.
+#[tactic(auto, unfolding(definitions::specs::Grammar::zone_line))]
+fn zone(text: &[u8]) -> Option<TextLine>
+    ensures { result ≡ zone_line text.now }
+{
+    let rest = word(b"zone", text)?;
+    let (z, rest) = field(rest)?;
+    whole(TextLine::Item(Item::Zone(z)), rest)
+}
+
+/// A segment.
+#[tactic(auto, unfolding(definitions::specs::Grammar::segment_line))]
+fn segment(text: &[u8]) -> Option<TextLine>
+    ensures { result ≡ segment_line text.now }
+{
+    let rest = word(b"segment", text)?;
+    let (s, rest) = field(rest)?;
+    let (z, rest) = field(rest)?;
+    let (length, rest) = field(rest)?;
+    whole(TextLine::Item(Item::Segment(s, z, length)), rest)
+}
+
+/// Two ends that meet.
+#[tactic(auto, unfolding(definitions::specs::Grammar::joint_line))]
+fn joint(text: &[u8]) -> Option<TextLine>
+    ensures { result ≡ joint_line text.now }
+{
+    let rest = word(b"joint", text)?;
+    let (a, rest) = end(rest)?;
+    let (b, rest) = end(rest)?;
+    whole(TextLine::Item(Item::Joint(a, b)), rest)
+}
+
+/// An end where trains come on and leave.
+#[tactic(auto, unfolding(definitions::specs::Grammar::portal_line))]
+fn portal(text: &[u8]) -> Option<TextLine>
+    ensures { result ≡ portal_line text.now }
+{
+    let rest = word(b"portal", text)?;
+    let (a, rest) = end(rest)?;
+    whole(TextLine::Item(Item::Portal(a)), rest)
+}
+
+/// An end where the track ends.
+#[tactic(auto, unfolding(definitions::specs::Grammar::buffer_line))]
+fn buffer(text: &[u8]) -> Option<TextLine>
+    ensures { result ≡ buffer_line text.now }
+{
+    let rest = word(b"buffer", text)?;
+    let (a, rest) = end(rest)?;
+    whole(TextLine::Item(Item::Buffer(a)), rest)
+}
+
+/// The line between the items and the events.
+#[tactic(auto, unfolding(definitions::specs::Grammar::script_line))]
+fn script(text: &[u8]) -> Option<TextLine>
+    ensures { result ≡ script_line text.now }
+{
+    let rest = word(b"script", text)?;
+    whole(TextLine::Script, rest)
+}
+
+/// A train is declared.
+#[tactic(auto, unfolding(definitions::specs::Grammar::train_line))]
+fn train(text: &[u8]) -> Option<TextLine>
+    ensures { result ≡ train_line text.now }
+{
+    let rest = word(b"train", text)?;
+    let (t, rest) = ranged(1, 65535, rest)?;
+    let (length, rest) = ranged(1, 1_000_000, rest)?;
+    let (error, rest) = ranged(0, 999_999, rest)?;
+    let (speed, rest) = ranged(1, 60_000, rest)?;
+    let rest = word(b" eq", rest)?;
+    if error < length {
+        let event = Event::Train(
+            TrainId(t as u16),
+            length as u32,
+            error as u32,
+            speed as u32,
+            Kind::Equipped,
+        );
+        whole(TextLine::Event(event), rest)
+    } else {
+        None
+    }
+}
+
+/// A train asks for entry.
+#[tactic(auto, unfolding(definitions::specs::Grammar::entry_line))]
+fn entry(text: &[u8]) -> Option<TextLine>
+    ensures { result ≡ entry_line text.now }
+{
+    let rest = word(b"entry", text)?;
+    let (t, rest) = ranged(1, 65535, rest)?;
+    let (st, rest) = step(rest)?;
+    whole(TextLine::Event(Event::Entry(TrainId(t as u16), st)), rest)
+}
+
+/// A train comes on.
+#[tactic(auto, unfolding(definitions::specs::Grammar::enter_line))]
+fn enter(text: &[u8]) -> Option<TextLine>
+    ensures { result ≡ enter_line text.now }
+{
+    let rest = word(b"enter", text)?;
+    let (t, rest) = ranged(1, 65535, rest)?;
+    whole(TextLine::Event(Event::Enter(TrainId(t as u16))), rest)
+}
+
+/// Whether a sign comes next.
+fn signed(bytes: &[u8]) -> bool
+    ensures { result ≡ is_sign bytes.now }
+{
+    match bytes {
+        [b'+' | b'-', ..] => true,
+        _ => false,
+    }
+}
+
+/// The steps of an ask and the number behind them, where it has a step and the number is in its range.
+fn asked_end(
+    steps: ArrayVec<DirSeg, 24>,
+    to: u64,
+    rest: &[u8],
+) -> Option<((ArrayVec<DirSeg, 24>, u32), &[u8])>
+    ensures { Sees (λ x. ((x.0.0.items, x.0.1), x.1.now)) result (Rattle.definitions.specs.Grammar.asked_end steps.items (to, rest.now)) }
+{
+    if steps.is_empty() {
+        return None;
+    }
+    if 1 <= to && to <= 10_000_000 {
+        Some(((steps, to as u32), rest))
+    } else {
+        None
+    }
+}
+
+/// The steps of an ask, behind `steps` and at most `more`, and the number behind them.
+#[tactic(auto, unfolding(definitions::specs::Grammar::asked_at))]
+fn asked(
+    steps: ArrayVec<DirSeg, 24>,
+    more: u64,
+    bytes: &[u8],
+) -> Option<((ArrayVec<DirSeg, 24>, u32), &[u8])>
+    requires { array_vec_len steps + more ≤ 24 }
+    ensures { Sees (λ x. ((x.0.0.items, x.0.1), x.1.now)) result (asked_at steps.items more bytes.now) }
+{
+    let (n, rest) = field(bytes)?;
+    if more == 0 || !signed(rest) {
+        return asked_end(steps, n, rest);
+    }
+    let (end, rest) = sign(n, rest)?;
+    let (st, rest) = step_of(end, rest)?;
+    let mut steps = steps;
+    steps.push(st);
+    asked(steps, more - 1, rest)
+}
+
+/// A train asks for further steps.
+#[tactic(auto, unfolding(definitions::specs::Grammar::ask_line))]
+fn ask(text: &[u8]) -> Option<TextLine>
+    ensures { result ≡ ask_line text.now }
+{
+    let rest = word(b"ask", text)?;
+    let (t, rest) = ranged(1, 65535, rest)?;
+    let (z, rest) = ranged(1, 16, rest)?;
+    let ((steps, to), rest) = asked(ArrayVec::new(), 24, rest)?;
+    whole(
+        TextLine::Event(Event::Ask(TrainId(t as u16), ZoneId(z as u8), steps, to)),
+        rest,
+    )
+}
+
+/// A message is taken.
+#[tactic(auto, unfolding(definitions::specs::Grammar::take_line))]
+fn take(text: &[u8]) -> Option<TextLine>
+    ensures { result ≡ take_line text.now }
+{
+    let rest = word(b"take", text)?;
+    let (to, rest) = ranged(0, 16, rest)?;
+    let (from, rest) = ranged(0, 16, rest)?;
+    let (n, rest) = ranged(1, 4_294_967_295, rest)?;
+    whole(
+        TextLine::Event(Event::Take(to as u8, from as u8, n as u32)),
+        rest,
+    )
+}
+
+/// One of the two, the first one first.
+fn either(a: Option<TextLine>, b: Option<TextLine>) -> Option<TextLine>
+    ensures { result ≡ Rattle.definitions.specs.Grammar.or_next a b }
+{
+    match a {
+        Some(says) => Some(says),
+        None => b,
+    }
+}
+
+/// An item, or the line behind the items.
+#[tactic(auto, unfolding(definitions::specs::Grammar::item_form))]
+fn item(text: &[u8]) -> Option<TextLine>
+    ensures { result ≡ item_form text.now }
+{
+    let end = either(portal(text), either(buffer(text), script(text)));
+    either(zone(text), either(segment(text), either(joint(text), end)))
+}
+
+/// An event.
+#[tactic(auto, unfolding(definitions::specs::Grammar::event_form))]
+fn event(text: &[u8]) -> Option<TextLine>
+    ensures { result ≡ event_form text.now }
+{
+    let later = either(enter(text), either(ask(text), take(text)));
+    either(train(text), either(entry(text), later))
+}
+
+/// What a text line says that is not passed over.
+#[tactic(auto, unfolding(definitions::specs::Grammar::form_of))]
+fn form(text: &[u8]) -> TextLine
+    ensures { result ≡ form_of text.now }
+{
+    match either(item(text), event(text)) {
+        Some(says) => says,
+        None => TextLine::Strange,
+    }
+}
+
+/// What a text line says.
+#[tactic(auto, unfolding(definitions::specs::Grammar::line_of))]
+pub fn text_line(text: &[u8]) -> TextLine
+    ensures { result ≡ line_of text.now }
+{
+    match text {
+        [] | [b'#', ..] => TextLine::Passed,
+        _ => {
+            if text.len() > 4096 {
+                TextLine::Strange
+            } else {
+                form(text)
+            }
+        }
+    }
+}

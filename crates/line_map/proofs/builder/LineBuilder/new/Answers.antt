@@ -1,0 +1,7 @@
+use Rattle.std.proofs.Common.{refl}
+use Rattle.definitions.specs.Rules.{builds}
+use Rattle.line_map.proofs.builder.LineBuilder.new.Goals as goal
+
+pub invariant_of-result : goal.invariant_of-result
+unfolding builds
+invariant_of-result c = rw c.in_ok-with_capacity.ensures.items refl

@@ -1,0 +1,5 @@
+pub mod Start
+pub mod Last
+pub mod Story
+pub mod Steps
+pub mod Trains

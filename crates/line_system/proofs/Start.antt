@@ -1,0 +1,65 @@
+-- The zone of a line of one zone, and what a system keeps at its start.
+use Rattle.std.proofs.Common.{◌≡◌, ℕ, zero, suc, ◌<◌, ◌≤◌, Bool, true, ◌&&◌, [], ◌∷◌, refl, arith, nat_eq, count_by, Some, None}
+use Rattle.std.specs.List.{list_any}
+use Rattle.std.proofs.lemmas.Bool.Decides.{nat_tests}
+use Rattle.track_points.specs.declared.ids.ZoneId.{ZoneId}
+use Rattle.track_points.proofs.Some.{by_test}
+use Rattle.definitions.specs.declared.item.Item.TheVariants.{Zone, Segment, Joint, Portal, Buffer}
+use Rattle.definitions.specs.Track.{Line, has_zone}
+use Rattle.definitions.specs.Rules.{is_any_zone, is_line, builds, finish_rule}
+use Rattle.definitions.specs.Safe.{Kept}
+use Rattle.plain_state.specs.Plain.{Plain, zone_id, plain_of, plain_start, find_way}
+use Rattle.line_map.specs.Order.{count_below, IsZoneAt}
+use Rattle.line_map.proofs.Valid.{zone_ok}
+use Rattle.story_laws.proofs.Lines.{zone_only}
+use Rattle.line_system.specs.Kept.{IsKept}
+
+pub zone_at : (line : Line) (k : ℕ) (z : ZoneId) → IsZoneAt line k (Some z) → count_by is_any_zone line ≤ 1 → z.0 ≡ zone_id line
+zone_at line k z at one = zone_only line z.0 one at.0
+
+has_first : (line : Line) → list_any is_any_zone line ≡ true → has_zone line (zone_id line) ≡ true
+unfolding zone_id
+has_first [] h = absurd cc
+has_first (Zone z ∷ line) h = grind (arith, nat_tests)
+has_first (Segment s z len ∷ line) h = has_first line h
+has_first (Joint a b ∷ line) h = has_first line h
+has_first (Portal a ∷ line) h = has_first line h
+has_first (Buffer a ∷ line) h = has_first line h
+
+counted : (test : ℕ → Bool) (z n : ℕ) → test z ≡ true → z < n → 0 < count_below test n
+unfolding count_below
+counted test z zero h k = absurd (omega arith)
+counted test z (suc n) h k = by_test (test n)
+    (λ a. rw a (omega arith))
+    (λ a. rw a (counted test z n h (by_test (nat_eq z n)
+    (λ b. absurd (grind (arith, nat_tests)))
+    (λ b. grind (arith, nat_tests)))))
+
+right : (a b : Bool) → (a && b) ≡ true → b ≡ true
+right a b h = grind arith
+
+some_zone : (line : Line) → is_line line ≡ true → list_any is_any_zone line ≡ true
+unfolding finish_rule
+some_zone line v =
+    let f = right (builds [] line) (nat_eq (finish_rule line) 0) v in
+    by_test (list_any is_any_zone line)
+    (λ a. a)
+    (λ a. absurd (let g = rw a at f in cc))
+
+pub no_zone_at : (line : Line) → is_line line ≡ true → IsZoneAt line 0 None → ⊥
+no_zone_at line v at =
+    let h = has_first line (some_zone line v) in
+    let ok = zone_ok line v (zone_id line) h in
+    let most : zone_id line < 17 = omega arith in
+    let some = counted (has_zone line) (zone_id line) 17 h most in
+    omega arith
+
+pub starts : (line : Line) (p : Plain) → is_line line ≡ true → count_by is_any_zone line ≤ 1 → p ≡ plain_start (zone_id line) → IsKept line [] p
+unfolding plain_of Kept find_way
+starts line p v one h = record {
+  one_zone = record { valid = v; one = one };
+  kept = tt;
+  linked = h;
+  fits = rw h refl;
+  few = λ t. rw h (omega arith);
+}

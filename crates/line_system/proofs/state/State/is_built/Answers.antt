@@ -1,0 +1,4 @@
+use Rattle.line_system.proofs.state.State.is_built.Goals as goal
+
+pub returns-in-Take : goal.returns-in-Take
+returns-in-Take c = rw c.in-Take.is c.is_link.ensures

@@ -1,0 +1,5 @@
+pub mod State
+pub mod World
+pub mod History
+pub mod Kept
+pub mod System

@@ -1,0 +1,43 @@
+-- A document that keeps to the rules is done, and every history is safe.
+use Rattle.std.proofs.Common.{◌≡◌, ℕ, List, [], Option, Some, None, refl, ◌∙◌, subst}
+use Rattle.edge_io.specs.declared.status.Status.{Status}
+use Rattle.edge_io.specs.declared.status.Status.TheVariants as status
+use Rattle.definitions.specs.Trace.{Given}
+use Rattle.definitions.specs.Endings.{status_of}
+use Rattle.document_laws.specs.Throughout.{SafeThroughout}
+use Rattle.document_laws.specs.Whole.{whole}
+use Rattle.document_laws.proofs.Throughout.{safe_throughout}
+use Rattle.document_laws.proofs.Whole.{document_gives, document_gives_nothing}
+use Rattle.story_laws.proofs.Safety.{safe_story}
+use Rattle.story_laws.proofs.Granting.{granted_story}
+use Rattle.run_engine.specs.Running.{Gave, Ran, Causes}
+use Rattle.run_engine.specs.Complete.{Completed, NoFault, Complete}
+
+done : (s : Status) (g : Given) (before now : Option (List ℕ)) (r0 r w0 w : ℕ) → Gave s g before now → Causes s r0 r w0 w → NoFault r0 r w0 w → status_of g.ending ≡ status.Done → Completed s g before now
+done status.Read g before now r0 r w0 w h c n e = absurd (n.read c.0)
+done status.Write g before now r0 r w0 w h c n e = absurd (n.wrote c.1)
+done status.Memory g before now r0 r w0 w h c n e = tt
+done status.Done g before now r0 r w0 w h c n e = (refl, h.1)
+done status.Usage g before now r0 r w0 w h c n e = (h.0 ∙ e, h.1)
+done status.Line g before now r0 r w0 w h c n e = (h.0 ∙ e, h.1)
+done status.Script g before now r0 r w0 w h c n e = (h.0 ∙ e, h.1)
+done status.Premise g before now r0 r w0 w h c n e = (h.0 ∙ e, h.1)
+done status.Limit g before now r0 r w0 w h c n e = (h.0 ∙ e, h.1)
+done status.Unbuilt g before now r0 r w0 w h c n e = (h.0 ∙ e, h.1)
+
+pub complete : (s : Status) (left : Option (List ℕ)) (before now : Option (List ℕ)) (r0 r w0 w : ℕ) → Ran s left before now → Causes s r0 r w0 w → Complete s left before now r0 r w0 w
+complete s None before now r0 r w0 w h c = tt
+complete s (Some bytes) before now r0 r w0 w h c = λ n. record {
+  script = λ items events d.
+      done s (whole items events) before now r0 r w0 w (subst (λ (g : Given). Gave s g before now) (document_gives bytes items events d) h) c n refl;
+  line = λ items d.
+      done s (whole items []) before now r0 r w0 w (subst (λ (g : Given). Gave s g before now) (document_gives_nothing bytes items d) h) c n refl;
+}
+
+pub complete_no_memory : (left : Option (List ℕ)) (before now : Option (List ℕ)) (r0 r w0 w : ℕ) → Complete status.Memory left before now r0 r w0 w
+complete_no_memory None before now r0 r w0 w = tt
+complete_no_memory (Some bytes) before now r0 r w0 w = λ n. record { script = λ items events d. tt; line = λ items d. tt }
+
+-- the history that any bytes are is safe after each of its events, and each event added what it granted
+pub all_safe : (bytes : List ℕ) → SafeThroughout bytes
+all_safe bytes = safe_throughout (λ line events l k. record { safe = safe_story line events l k; granted = granted_story line events l k }) bytes

@@ -1,0 +1,77 @@
+-- No text line ends a document as done.
+use Rattle.std.proofs.Common.{◌≡◌, ℕ, List, [], Option, Some, None, Bool, true, false, refl, sym, ◌∙◌, ap}
+use Rattle.std.specs.Prelude.{nat_eq}
+use Rattle.edge_io.specs.declared.status.Status.TheVariants as status
+use Rattle.edge_io.specs.declared.stream.Got.TheVariants.{End}
+use Rattle.edge_io.specs.Streams.{Gives}
+use Rattle.definitions.specs.declared.item.Item.{Item}
+use Rattle.definitions.specs.declared.event.Event.{Event}
+use Rattle.definitions.specs.declared.document.TextLine.{TextLine}
+use Rattle.definitions.specs.declared.document.TextLine.TheVariants as says
+use Rattle.definitions.specs.declared.document.Ending.{Ending}
+use Rattle.definitions.specs.declared.document.Ending.TheVariants as ends
+use Rattle.definitions.specs.Rules.{rule_of, finish_rule}
+use Rattle.definitions.specs.Track.{Line}
+use Rattle.definitions.specs.Story.{Story}
+use Rattle.definitions.specs.Steps.{story_of}
+use Rattle.definitions.specs.Premises.{built, premise_of}
+use Rattle.definitions.specs.Endings.{status_of}
+use Rattle.definitions.specs.Trace.{Stage, Items, Script, Over, is_over, stage_read, stage_ends, second_zone, item_read, event_read, Given}
+use Rattle.byte_feed.specs.Feed.{Feed, fed_gives}
+use Rattle.byte_feed.proofs.Lines.{by_test}
+use Rattle.byte_feed.proofs.Streams.{fed_over}
+use Rattle.run_engine.specs.declared.pump.Cut.{Cut}
+use Rattle.run_engine.specs.declared.pump.Cut.TheVariants as cuts
+use Rattle.run_engine.specs.Shown.{done_early}
+use Rattle.run_engine.specs.Running.{AtEnd, status_of_cut}
+
+built_never : (n : ℕ) (line : Line) (events : List Event) (s : Story) (e : Event) → done_early (event_read n line events s e).stage ≡ false
+built_never n line events s e = by_test (built line s e)
+    (λ y. by_test (nat_eq (premise_of s e) 0) (λ p. rw (y, p) refl) (λ p. rw (y, p) refl))
+    (λ x. rw x refl)
+
+item_never : (n : ℕ) (items : List Item) (i : Item) (second : Bool) (rule : ℕ) → done_early (item_read n items i second rule) ≡ false
+item_never n items i true rule = refl
+item_never n items i false rule = by_test (nat_eq rule 0) (λ y. rw y refl) (λ x. rw x refl)
+
+pub never_done : (n : ℕ) (s : Stage) (t : TextLine) → done_early s ≡ false → done_early (stage_read n s t).stage ≡ false
+unfolding stage_read
+never_done n (Over ending) t h = h
+never_done n (Items items) says.Passed h = refl
+never_done n (Items items) (says.Item i) h = item_never n items i (second_zone items i) (rule_of items i)
+never_done n (Items items) says.Script h = by_test (nat_eq (finish_rule items) 0) (λ y. rw y refl) (λ x. rw x refl)
+never_done n (Items items) (says.Event e) h = refl
+never_done n (Items items) says.Strange h = refl
+never_done n (Script line events) says.Passed h = refl
+never_done n (Script line events) (says.Item i) h = refl
+never_done n (Script line events) says.Script h = refl
+never_done n (Script line events) (says.Event e) h = built_never n line events (story_of line events) e
+never_done n (Script line events) says.Strange h = refl
+
+over_ends : (n : ℕ) (s : Stage) → is_over s ≡ true → done_early s ≡ false → status_of (stage_ends n s) ≡ status.Done → ⊥
+unfolding stage_ends
+over_ends n (Items items) h k e = cc
+over_ends n (Script line events) h k e = cc
+over_ends n (Over ends.Usage) h k e = cc
+over_ends n (Over (ends.Done m)) h k e = cc
+over_ends n (Over (ends.Rule m r)) h k e = cc
+over_ends n (Over (ends.Premise m p)) h k e = cc
+over_ends n (Over ends.Input) h k e = cc
+over_ends n (Over (ends.Unbuilt m)) h k e = cc
+
+-- what ends as done is not over
+pub done_only : (f : Feed) (e : Ending) → done_early f.reading.stage ≡ false → e ≡ (fed_gives f []).ending → status_of e ≡ status.Done → is_over f.reading.stage ≡ false
+done_only f e k is h = by_test (is_over f.reading.stage)
+    (λ over. absurd (over_ends f.reading.number f.reading.stage over k (sym (ap status_of (is ∙ ap (λ (g : Given). g.ending) (fed_over f [] over))) ∙ h)))
+    (λ on. on)
+
+pub cut_not_done : (cut : Cut) → status_of_cut cut ≡ status.Done → ⊥
+cut_not_done cuts.Read h = cc
+cut_not_done cuts.Write h = cc
+cut_not_done cuts.Memory h = cc
+
+pub at_end : (old new : Option (List ℕ)) (buf : List ℕ) → Gives End old buf new → AtEnd new
+at_end None None buf g = tt
+at_end None (Some new) buf g = cc
+at_end (Some old) None buf g = tt
+at_end (Some old) (Some new) buf g = g.1

@@ -1,0 +1,41 @@
+-- What the definitions see of the engine.
+use Rattle.std.specs.Prelude.{◌≡◌, ℕ, ◌≤◌, Bool, true, false, length, count_by}
+use Rattle.definitions.specs.declared.document.Ending.TheVariants as ends
+use Rattle.definitions.specs.Rules.{is_any_zone}
+use Rattle.definitions.specs.Trace.{Stage, Items, Script, Over, After, Reading, input_limit}
+use Rattle.plain_state.specs.Plain.{listed}
+use Rattle.run_engine.specs.declared.stage.Stage as code
+use Rattle.run_engine.specs.declared.stage.Stage.TheVariants as variants
+use Rattle.run_engine.specs.declared.stage.After as code_after
+use Rattle.run_engine.specs.declared.stage.Reading as code_reading
+
+abbrev pub stage_shown : code.Stage → Stage
+stage_shown (variants.Items builder) = Items builder
+stage_shown (variants.Script system) = Script system.line system.events
+stage_shown (variants.Over ending) = Over ending
+
+abbrev pub after_shown : code_after.After → After
+after_shown x = record { stage = stage_shown x.stage; lines = listed x.line }
+
+abbrev pub reading_shown : code_reading.Reading → Reading
+reading_shown r = record { number = r.number; bytes = r.bytes; stage = stage_shown r.stage }
+
+-- no text line ends a document as done
+abbrev pub done_early : Stage → Bool
+done_early (Items items) = false
+done_early (Script line events) = false
+done_early (Over (ends.Done n)) = true
+done_early (Over ending) = false
+
+-- behind so many text lines: there is one zone at most, and no more events than text lines
+abbrev pub Steady : ℕ → Stage → Type 0
+Steady n (Items items) = count_by is_any_zone items ≤ 1
+Steady n (Script line events) = length events ≤ n
+Steady n (Over ending) = Unit {0}
+
+-- the counts stay small
+pub record Small (r : Reading) : Type 0 where
+  pub number : r.number ≤ r.bytes
+  pub bytes : r.bytes ≤ input_limit
+  pub going : done_early r.stage ≡ false
+  pub steady : Steady r.number r.stage

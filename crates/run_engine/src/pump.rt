@@ -1,0 +1,109 @@
+//! A document from a source to a sink.
+ghost use Rattle.std.specs.Prelude.{◌≡◌, ◌≤◌, false, OnOk, IfSome};
+ghost use Rattle.definitions.specs.Trace.{is_over};
+ghost use Rattle.byte_feed.specs.Feed.{opened};
+ghost use Rattle.run_engine.specs.Feeding.{feed_shown, Within};
+ghost use Rattle.document_laws.specs.Throughout.{SafeThroughout};
+ghost use Rattle.run_engine.specs.Complete.{Complete};
+ghost use Rattle.run_engine.specs.Running.{AtEnd, Pumped, PumpCauses, Ran, Causes, cut_of, status_of_cut};
+
+use crate::feed::{Fault, Feed};
+use crate::stage::status;
+use edge_io::status::Status;
+use edge_io::stream::{Got, Sink, Source};
+use std::alloc::Global;
+
+/// What cut a run short.
+#[derive(Clone, Copy, PartialEq, Eq, Debug)]
+pub enum Cut {
+    Read,
+    Write,
+    Memory,
+}
+
+pub fn cut_by(fault: Fault) -> Cut
+    ensures { result ≡ cut_of fault }
+{
+    match fault {
+        Fault::Write => Cut::Write,
+        Fault::Memory => Cut::Memory,
+    }
+}
+
+pub fn cut_status(cut: Cut) -> Status
+    ensures { result ≡ status_of_cut cut }
+{
+    match cut {
+        Cut::Read => Status::Read,
+        Cut::Write => Status::Write,
+        Cut::Memory => Status::Memory,
+    }
+}
+
+/// Feeds all that the source has left, up to the text line that gives an answer.
+fn pump<S: Source, K: Sink>(
+    alloc: Global,
+    feed: &mut Feed,
+    src: &mut S,
+    sink: &mut K,
+) -> Result<(), Cut>
+    requires within { Within (feed_shown feed.old) }
+    requires on { is_over (feed_shown feed.old).reading.stage ≡ false }
+    ensures pumped { Pumped (S.left src.old) (feed_shown feed.old) (feed_shown feed.new) (K.written sink.old) (K.written sink.new) result }
+    ensures causes { PumpCauses result (S.faults src.old) (S.faults src.new) (K.faults sink.old) (K.faults sink.new) }
+    ensures within { OnOk result (Within (feed_shown feed.new)) }
+    ensures ended { OnOk result (is_over (feed_shown feed.new).reading.stage ≡ false → AtEnd (S.left src.new)) }
+{
+    let mut buf = [0u8; 4096];
+    for turn in 0..u64::MAX {
+        match src.read(&mut buf) {
+            Got::Bytes(n) => {
+                let (piece, _) = buf.split_at(n);
+                match feed.take(alloc, piece, sink) {
+                    Ok(()) => {
+                        if feed.is_over() {
+                            return Ok(());
+                        }
+                    }
+                    Err(fault) => return Err(cut_by(fault)),
+                }
+            }
+            Got::End => return Ok(()),
+            Got::Failed => return Err(Cut::Read),
+        }
+    }
+    unreachable!()
+}
+
+/// Writes what the source's bytes give, from their start.
+fn run_from<S: Source, K: Sink>(alloc: Global, feed: Feed, src: &mut S, sink: &mut K) -> Status
+    requires start { feed_shown feed ≡ opened Rattle.definitions.specs.Trace.start }
+    requires within { Within (feed_shown feed) }
+    ensures ran { Ran result (S.left src.old) (K.written sink.old) (K.written sink.new) }
+    ensures causes { Causes result (S.faults src.old) (S.faults src.new) (K.faults sink.old) (K.faults sink.new) }
+    ensures ended { result ≡ Status.Done → AtEnd (S.left src.new) }
+{
+    let mut feed = feed;
+    match pump(alloc, &mut feed, src, sink) {
+        Ok(()) => match feed.end(alloc, sink) {
+            Ok(ending) => status(&ending),
+            Err(fault) => cut_status(cut_by(fault)),
+        },
+        Err(cut) => cut_status(cut),
+    }
+}
+
+#[tactic(auto, using(crate::proofs::Completing::all_safe))]
+/// Writes what the source's bytes give: the outcome lines of a document, and its last line.
+pub fn run<S: Source, K: Sink>(alloc: Global, src: &mut S, sink: &mut K) -> Status
+    ensures ran { Ran result (S.left src.old) (K.written sink.old) (K.written sink.new) }
+    ensures causes { Causes result (S.faults src.old) (S.faults src.new) (K.faults sink.old) (K.faults sink.new) }
+    ensures ended { result ≡ Status.Done → AtEnd (S.left src.new) }
+    ensures complete { Complete result (S.left src.old) (K.written sink.old) (K.written sink.new) (S.faults src.old) (S.faults src.new) (K.faults sink.old) (K.faults sink.new) }
+    ensures safe { IfSome (S.left src.old) SafeThroughout }
+{
+    match Feed::start(alloc) {
+        Ok(feed) => run_from(alloc, feed, src, sink),
+        Err(_) => Status::Memory,
+    }
+}

@@ -1,0 +1,243 @@
+//! Where a document stands between two text lines.
+ghost use Rattle.std.specs.Prelude.{◌≡◌, ◌+◌, ◌-◌, ◌<◌, ◌≤◌, ◌^◌, false, IfOk, OnOk, length, count_by};
+ghost use Rattle.definitions.specs.Rules.{is_any_zone, rule_of, finish_rule};
+ghost use Rattle.definitions.specs.Trace.{second_zone, item_read, script_read, event_read, stage_read, stage_ends, text_read, input_limit};
+ghost use Rattle.definitions.specs.Steps.{story_of};
+ghost use Rattle.definitions.specs.Endings.{status_of};
+ghost use Rattle.plain_state.specs.Plain.{listed};
+ghost use Rattle.run_engine.specs.Faults.{Refuses};
+ghost use Rattle.run_engine.specs.Shown.{stage_shown, after_shown, reading_shown, Small, Steady};
+
+use definitions::document::{Ending, TextLine};
+use definitions::event::Event;
+use definitions::item::Item;
+use definitions::outcome::Outcome;
+use document_text::read::text_line;
+use edge_io::status::Status;
+use line_map::{LineBuilder, LineFault};
+use line_system::{Answer, System};
+use std::alloc::{AllocError, Global};
+use std::mem;
+
+/// The most bytes that an input may have.
+pub const INPUT_LIMIT: u64 = 67_108_864;
+
+/// Where a document stands: among its items, in its script, or over.
+#[derive(Drop)]
+pub enum Stage {
+    Items(LineBuilder),
+    Script(System),
+    Over(Ending),
+}
+
+/// What a text line leaves, and its outcome line.
+#[derive(Drop)]
+pub struct After {
+    pub stage: Stage,
+    pub line: Option<Outcome>,
+}
+
+/// Whether an item is a zone behind another one.
+fn is_second(builder: &LineBuilder, item: &Item) -> bool
+    ensures { result ≡ second_zone builder.now item.now }
+{
+    match *item {
+        Item::Zone(_) => builder.has_zone(),
+        _ => false,
+    }
+}
+
+/// The stage behind a fault of the line at text line n.
+fn refused(n: u64, fault: LineFault) -> Result<Stage, AllocError>
+    ensures { Refuses n fault result }
+{
+    match fault {
+        LineFault::Rule(rule) => Ok(Stage::Over(Ending::Rule(n, rule))),
+        LineFault::Memory => Err(AllocError),
+    }
+}
+
+/// Text line n is an item.
+fn read_item(n: u64, builder: LineBuilder, item: Item) -> Result<Stage, AllocError>
+    ensures { IfOk result (λ s. stage_shown s ≡ item_read n builder item (second_zone builder item) (rule_of builder item)) }
+{
+    if is_second(&builder, &item) {
+        return Ok(Stage::Over(Ending::Unbuilt(n)));
+    }
+    let mut builder = builder;
+    match builder.add(&item) {
+        Ok(()) => Ok(Stage::Items(builder)),
+        Err(fault) => refused(n, fault),
+    }
+}
+
+/// Text line n begins the script.
+fn read_script(alloc: Global, n: u64, builder: LineBuilder) -> Result<Stage, AllocError>
+    requires one { count_by is_any_zone builder ≤ 1 }
+    ensures { IfOk result (λ s. stage_shown s ≡ script_read n builder (finish_rule builder)) }
+{
+    match builder.finish() {
+        Ok(line) => Ok(Stage::Script(System::start(alloc, line)?)),
+        Err(fault) => refused(n, fault),
+    }
+}
+
+/// A stage with no outcome line.
+fn quiet(stage: Stage) -> After
+    ensures { after_shown result ≡ Rattle.definitions.specs.Trace.quiet (stage_shown stage) }
+{
+    After { stage, line: None }
+}
+
+/// Text line n is an event.
+fn read_event(n: u64, system: System, event: Event) -> Result<After, AllocError>
+    requires few { length system.events < 2 ^ 32 - 2 }
+    ensures { IfOk result (λ x. after_shown x ≡ event_read n system.line system.events (story_of system.line system.events) event) }
+{
+    match system.take(event)? {
+        Answer::Unbuilt => Ok(quiet(Stage::Over(Ending::Unbuilt(n)))),
+        Answer::Premise(premise) => Ok(quiet(Stage::Over(Ending::Premise(n, premise)))),
+        Answer::Goes(next, line) => Ok(After {
+            stage: Stage::Script(next),
+            line,
+        }),
+    }
+}
+
+/// Text line n, which says this.
+#[tactic(auto, unfolding(definitions::specs::Trace::stage_read))]
+fn read(alloc: Global, n: u64, stage: Stage, says: TextLine) -> Result<After, AllocError>
+    requires steady { Steady (n - 1) (stage_shown stage) }
+    requires small { n ≤ input_limit + 1 }
+    ensures { IfOk result (λ x. after_shown x ≡ stage_read n (stage_shown stage) says) }
+{
+    match stage {
+        Stage::Over(ending) => Ok(quiet(Stage::Over(ending))),
+        Stage::Items(builder) => match says {
+            TextLine::Passed => Ok(quiet(Stage::Items(builder))),
+            TextLine::Item(item) => Ok(quiet(read_item(n, builder, item)?)),
+            TextLine::Script => Ok(quiet(read_script(alloc, n, builder)?)),
+            TextLine::Event(_) | TextLine::Strange => Ok(quiet(Stage::Over(Ending::Unbuilt(n)))),
+        },
+        Stage::Script(system) => match says {
+            TextLine::Passed => Ok(quiet(Stage::Script(system))),
+            TextLine::Event(event) => read_event(n, system, event),
+            TextLine::Item(_) | TextLine::Script | TextLine::Strange => Ok(quiet(Stage::Over(
+                Ending::Unbuilt(n),
+            ))),
+        },
+    }
+}
+
+/// How a document ends behind its items whose last text line is line n.
+#[tactic(auto, unfolding(definitions::specs::Trace::stage_ends))]
+fn items_end(n: u64, builder: LineBuilder) -> Ending
+    requires { n + 1 < 2 ^ 64 }
+    ensures { result ≡ stage_ends n (Rattle.definitions.specs.Trace.Items builder) }
+{
+    match builder.finish() {
+        Ok(_) => Ending::Done(0),
+        Err(fault) => match fault {
+            LineFault::Rule(rule) => Ending::Rule(n + 1, rule),
+            LineFault::Memory => unreachable!(),
+        },
+    }
+}
+
+/// How a document ends whose last text line is line n.
+#[tactic(auto, unfolding(definitions::specs::Trace::stage_ends))]
+fn ending(n: u64, stage: Stage) -> Ending
+    requires { n + 1 < 2 ^ 64 }
+    ensures { result ≡ stage_ends n (stage_shown stage) }
+{
+    match stage {
+        Stage::Over(ending) => ending,
+        Stage::Items(builder) => items_end(n, builder),
+        Stage::Script(system) => Ending::Done(system.count()),
+    }
+}
+
+/// The status that goes with a last line.
+pub fn status(ending: &Ending) -> Status
+    ensures { result ≡ status_of ending.now }
+{
+    match *ending {
+        Ending::Usage => Status::Usage,
+        Ending::Done(_) => Status::Done,
+        Ending::Rule(_, _) => Status::Line,
+        Ending::Premise(_, _) => Status::Premise,
+        Ending::Input => Status::Limit,
+        Ending::Unbuilt(_) => Status::Unbuilt,
+    }
+}
+
+/// A stage behind a number of text lines and of bytes.
+#[derive(Drop)]
+pub struct Reading {
+    pub number: u64,
+    pub bytes: u64,
+    pub stage: Stage,
+}
+
+impl Reading {
+    /// No text line was read.
+    pub fn start(alloc: Global) -> Result<Reading, AllocError>
+        ensures { IfOk result (λ r. reading_shown r ≡ Rattle.definitions.specs.Trace.start) }
+    {
+        Ok(Reading {
+            number: 0,
+            bytes: 0,
+            stage: Stage::Items(LineBuilder::new(alloc)?),
+        })
+    }
+
+    /// Whether a text line has given an answer.
+    pub fn is_over(&self) -> bool
+        ensures { result ≡ Rattle.definitions.specs.Trace.is_over (stage_shown self.now.stage) }
+    {
+        match &self.stage {
+            Stage::Over(_) => true,
+            Stage::Items(_) => false,
+            Stage::Script(_) => false,
+        }
+    }
+
+    /// One text line of so many bytes, and its outcome line. Behind want of memory the stage is spent.
+    #[tactic(auto, unfolding(definitions::specs::Trace::text_read))]
+    pub fn text(
+        &mut self,
+        alloc: Global,
+        size: u64,
+        text: &[u8],
+    ) -> Result<Option<Outcome>, AllocError>
+        requires small { Small (reading_shown self.old) }
+        requires some { 1 ≤ size }
+        requires bound { size ≤ input_limit + 1 }
+        ensures lines { IfOk result (λ line. listed line ≡ (text_read (reading_shown self.old) size text.now).lines) }
+        ensures next { OnOk result (reading_shown self.new ≡ (text_read (reading_shown self.old) size text.now).next) }
+        ensures small { OnOk result (Small (reading_shown self.new)) }
+    {
+        if self.is_over() {
+            return Ok(None);
+        }
+        if self.bytes + size > INPUT_LIMIT {
+            self.stage = Stage::Over(Ending::Input);
+            return Ok(None);
+        }
+        let stage = mem::replace(&mut self.stage, Stage::Over(Ending::Input));
+        let after = read(alloc, self.number + 1, stage, text_line(text))?;
+        self.number += 1;
+        self.bytes += size;
+        self.stage = after.stage;
+        Ok(after.line)
+    }
+
+    /// How the document ends. The stage is spent.
+    pub fn end(&mut self) -> Ending
+        requires { self.old.number + 1 < 2 ^ 64 }
+        ensures { result ≡ stage_ends self.old.number (stage_shown self.old.stage) }
+    {
+        let stage = mem::replace(&mut self.stage, Stage::Over(Ending::Input));
+        ending(self.number, stage)
+    }
+}

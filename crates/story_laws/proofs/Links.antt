@@ -1,0 +1,193 @@
+-- The plain state follows the story, event by event.
+use Rattle.std.proofs.Common.{◌≡◌, ℕ, List, [], ◌∷◌, ◌++◌, Option, Some, None, Bool, true, false, refl, sym, ◌∙◌, ap, arith, max, if◌then◌else◌}
+use Rattle.std.proofs.lemmas.Bool.Decides.{nat_tests}
+use Rattle.std.specs.Prelude.{nat_eq, is_some}
+use Rattle.track_points.specs.declared.ids.DirSeg.{DirSeg}
+use Rattle.track_points.specs.declared.path.Path.{Path}
+use Rattle.track_points.proofs.Some.{by_test}
+use Rattle.definitions.specs.declared.message.Msg.{Msg}
+use Rattle.definitions.specs.Track.{Line, seg_len}
+use Rattle.definitions.specs.Story.{Entry as Made, Story, or_else, to_actor, sent, greatest_in, greatest_issued, ever, first_told, world_took}
+use Rattle.definitions.specs.World.{Facts, facts_in, facts_of, is_declared, entry_in, first_entry, enters, entered, HeldPath, taken_number, taken_entry, entry_authority, auth_number, last_number}
+use Rattle.definitions.specs.Control.{controls, answer_number, counted, last_issued}
+use Rattle.definitions.specs.Authority.{longest_in, longest, way}
+use Rattle.definitions.specs.Steps.{sender_of}
+use Rattle.definitions.specs.Safe.{IsLineOfOneZone}
+use Rattle.plain_state.specs.declared.WorldTrain.{WorldTrain}
+use Rattle.plain_state.specs.declared.ZoneTrain.{ZoneTrain}
+use Rattle.plain_state.specs.Plain.{find_train, change_train, find_way, change_way}
+use Rattle.plain_state.specs.Admits.{no_trains}
+use Rattle.story_laws.proofs.Sound.{Sound}
+use Rattle.story_laws.proofs.Quiet.{same_told}
+use Rattle.story_laws.proofs.Values.{world_of, world_train, zone_train_of, zone_train, zone_positive}
+
+-- Lists of trains.
+
+abbrev pub mapped : {A : Type 0} → (A → A) → Option A → Option A
+mapped f None = None
+mapped f (Some x) = Some (f x)
+
+pub find_change : (t : ℕ) (f : WorldTrain → WorldTrain) (xs : List WorldTrain) → ((x : WorldTrain) → (f x).id ≡ x.id) → find_train t (change_train t f xs) ≡ mapped f (find_train t xs)
+unfolding find_train change_train
+find_change t f [] keeps = refl
+find_change t f (x ∷ xs) keeps = by_test (nat_eq x.id.0 t)
+    (λ y. let e : nat_eq (f x).id.0 t ≡ true = rw (keeps x) y in rw (y, e) refl)
+    (λ n. rw (n, n) (find_change t f xs keeps))
+
+pub find_other : (t u : ℕ) (f : WorldTrain → WorldTrain) (xs : List WorldTrain) → ((x : WorldTrain) → (f x).id ≡ x.id) → nat_eq u t ≡ false → find_train t (change_train u f xs) ≡ find_train t xs
+unfolding find_train change_train
+find_other t u f [] keeps other = refl
+find_other t u f (x ∷ xs) keeps other = by_test (nat_eq x.id.0 u)
+    (λ y.
+    let e : nat_eq x.id.0 t ≡ false = grind (arith, nat_tests) in
+    let g : nat_eq (f x).id.0 t ≡ false = rw (keeps x) e in
+    rw (y, e, g) refl)
+    (λ n. rw n (by_test (nat_eq x.id.0 t) (λ y. rw y refl) (λ m. rw m (find_other t u f xs keeps other))))
+
+pub find_append : (t : ℕ) (xs : List WorldTrain) (x : WorldTrain) → find_train t (xs ++ x ∷ []) ≡ or_else (find_train t xs) (if nat_eq x.id.0 t then Some x else None)
+unfolding find_train
+find_append t [] x = refl
+find_append t (y ∷ xs) x = by_test (nat_eq y.id.0 t)
+    (λ a. rw a refl)
+    (λ b. rw b (find_append t xs x))
+
+pub way_change : (t : ℕ) (f : ZoneTrain → ZoneTrain) (xs : List ZoneTrain) → ((x : ZoneTrain) → (f x).id ≡ x.id) → find_way t (change_way t f xs) ≡ mapped f (find_way t xs)
+unfolding find_way change_way
+way_change t f [] keeps = refl
+way_change t f (x ∷ xs) keeps = by_test (nat_eq x.id.0 t)
+    (λ y. let e : nat_eq (f x).id.0 t ≡ true = rw (keeps x) y in rw (y, e) refl)
+    (λ n. rw (n, n) (way_change t f xs keeps))
+
+pub way_other : (t u : ℕ) (f : ZoneTrain → ZoneTrain) (xs : List ZoneTrain) → ((x : ZoneTrain) → (f x).id ≡ x.id) → nat_eq u t ≡ false → find_way t (change_way u f xs) ≡ find_way t xs
+unfolding find_way change_way
+way_other t u f [] keeps other = refl
+way_other t u f (x ∷ xs) keeps other = by_test (nat_eq x.id.0 u)
+    (λ y.
+    let e : nat_eq x.id.0 t ≡ false = grind (arith, nat_tests) in
+    let g : nat_eq (f x).id.0 t ≡ false = rw (keeps x) e in
+    rw (y, e, g) refl)
+    (λ n. rw n (by_test (nat_eq x.id.0 t) (λ y. rw y refl) (λ m. rw m (way_other t u f xs keeps other))))
+
+pub way_append : (t : ℕ) (xs : List ZoneTrain) (x : ZoneTrain) → find_way t (xs ++ x ∷ []) ≡ or_else (find_way t xs) (if nat_eq x.id.0 t then Some x else None)
+unfolding find_way
+way_append t [] x = refl
+way_append t (y ∷ xs) x = by_test (nat_eq y.id.0 t)
+    (λ a. rw a refl)
+    (λ b. rw b (way_append t xs x))
+
+pub no_trains_change : (u : ℕ) (f : WorldTrain → WorldTrain) (xs : List WorldTrain) → no_trains (change_train u f xs) ≡ no_trains xs
+unfolding change_train
+no_trains_change u f [] = refl
+no_trains_change u f (x ∷ xs) = by_test (nat_eq x.id.0 u) (λ y. rw y refl) (λ n. rw n refl)
+
+pub no_trains_append : (xs : List WorldTrain) (x : WorldTrain) → no_trains (xs ++ x ∷ []) ≡ false
+no_trains_append [] x = refl
+no_trains_append (y ∷ xs) x = refl
+
+-- What an entry leaves of a train of the world.
+
+pub last_same : (t : ℕ) (e : Made) (s : Story) → enters t e.event ≡ false → taken_number t (world_took e) ≡ 0 → last_number t (e ∷ s) ≡ last_number t s
+unfolding last_number
+last_same t e s off none =
+    let zero_more : max (last_number t s) 0 ≡ last_number t s = omega arith in
+    by_test (entered t s) (λ y. rw (off, y, none) zero_more) (λ n. rw (off, n) refl)
+
+pub entered_same : (t : ℕ) (e : Made) (s : Story) → enters t e.event ≡ false → entered t (e ∷ s) ≡ entered t s
+unfolding ever
+entered_same t e s off = rw off refl
+
+pub record StillWorld (t : ℕ) (e : Made) : Type 0 where
+  pub facts : facts_in t e.event ≡ None
+  pub entry : entry_in t e.event ≡ None
+  pub off : enters t e.event ≡ false
+  pub taken : taken_number t (world_took e) ≡ 0
+
+no_entry_taken : (t : ℕ) (took : Option (ℕ × Msg)) → taken_number t took ≡ 0 → taken_entry t took ≡ None
+no_entry_taken t took h = rw h refl
+
+pub authority_same : (t : ℕ) (e : Made) (s : Story) → taken_number t (world_took e) ≡ 0 → entry_authority t (e ∷ s) ≡ entry_authority t s
+authority_same t e s h = same_told (λ (x : Made). taken_entry t (world_took x)) e s (no_entry_taken t (world_took e) h)
+
+pub world_same : (t : ℕ) (e : Made) (s : Story) → StillWorld t e → world_train t (e ∷ s) ≡ world_train t s
+world_same t e s h =
+    ap (λ (f : Option Facts). world_of t f (first_entry t (e ∷ s)) (sender_of (entry_authority t (e ∷ s))) (entered t (e ∷ s)) (last_number t (e ∷ s))) (same_told (λ (x : Made). facts_in t x.event) e s h.facts)
+    ∙ (ap (λ (x : Option DirSeg). world_of t (facts_of t s) x (sender_of (entry_authority t (e ∷ s))) (entered t (e ∷ s)) (last_number t (e ∷ s))) (same_told (λ (x : Made). entry_in t x.event) e s h.entry)
+    ∙ (ap (λ (a : Option HeldPath). world_of t (facts_of t s) (first_entry t s) (sender_of a) (entered t (e ∷ s)) (last_number t (e ∷ s))) (authority_same t e s h.taken)
+    ∙ (ap (λ (b : Bool). world_of t (facts_of t s) (first_entry t s) (sender_of (entry_authority t s)) b (last_number t (e ∷ s))) (entered_same t e s h.off)
+    ∙ ap (λ (n : ℕ). world_of t (facts_of t s) (first_entry t s) (sender_of (entry_authority t s)) (entered t s) n) (last_same t e s h.off h.taken))))
+
+-- What an entry leaves of a train of the zone.
+
+pub record StillZone (line : Line) (t : ℕ) (e : Made) (s : Story) : Type 0 where
+  pub numbers : greatest_in (auth_number t) e.issued ≡ 0
+  pub paths : (n : ℕ) → longest_in (seg_len line) n t e.issued ≡ None
+  pub counts : counted t (e ∷ s) ≡ counted t s
+
+pub longest_same : (line : Line) (n t : ℕ) (e : Made) (s : Story) → longest_in (seg_len line) n t e.issued ≡ None → longest (seg_len line) n t (e ∷ s) ≡ longest (seg_len line) n t s
+unfolding longest
+longest_same line n t e s h = rw h refl
+
+pub issued_same : (t : ℕ) (e : Made) (s : Story) → greatest_in (auth_number t) e.issued ≡ 0 → last_issued t (e ∷ s) ≡ last_issued t s
+unfolding greatest_issued
+issued_same t e s h = rw h (omega arith)
+
+pub zone_same : (line : Line) (t : ℕ) (e : Made) (s : Story) → StillZone line t e s → zone_train line t (e ∷ s) ≡ zone_train line t s
+zone_same line t e s h =
+    let c = h.counts in
+    let w : way line t (e ∷ s) ≡ way line t s = ap (λ (n : ℕ). longest (seg_len line) n t (e ∷ s)) c ∙ longest_same line (counted t s) t e s (h.paths (counted t s)) in
+    ap (λ (x : Option Path). zone_train_of t x (last_issued t (e ∷ s)) (counted t (e ∷ s))) w
+    ∙ (ap (λ (n : ℕ). zone_train_of t (way line t s) n (counted t (e ∷ s))) (issued_same t e s h.numbers)
+    ∙ ap (λ (n : ℕ). zone_train_of t (way line t s) (last_issued t s) n) c)
+
+pub counted_none : (t : ℕ) (e : Made) (s : Story) → answer_number t e.took ≡ 0 → counted t (e ∷ s) ≡ counted t s
+unfolding counted
+counted_none t e s h =
+    let zero_more : max (counted t s) 0 ≡ counted t s = omega arith in
+    by_test (controls e.actor t s) (λ y. rw (y, h) zero_more) (λ n. rw n refl)
+
+pub counted_elsewhere : (t : ℕ) (e : Made) (s : Story) → controls e.actor t s ≡ false → counted t (e ∷ s) ≡ counted t s
+unfolding counted
+counted_elsewhere t e s h = rw h refl
+
+-- the world controls no train
+pub world_controls : (line : Line) (t : ℕ) (s : Story) → IsLineOfOneZone line → Sound line t s → controls 0 t s ≡ false
+world_controls line t s l sound = by_test (controls 0 t s)
+    (λ y. absurd (let a = sound.zone_alone 0 y in let b = zone_positive line l in omega arith))
+    (λ n. n)
+
+-- Links.
+
+pub sent_by : (from to : ℕ) (e : Made) (s : Story) → nat_eq e.actor from ≡ true → sent from to (e ∷ s) ≡ sent from to s ++ to_actor to e.issued
+unfolding sent
+sent_by from to e s h = rw h refl
+
+pub sent_else : (from to : ℕ) (e : Made) (s : Story) → nat_eq e.actor from ≡ false → sent from to (e ∷ s) ≡ sent from to s
+unfolding sent
+sent_else from to e s h = rw h refl
+
+-- Parts that are kept.
+
+or_some : {A : Type 0} (x y : Option A) → is_some (or_else x y) ≡ false → (is_some x ≡ false) × (is_some y ≡ false)
+or_some None y h = (refl, h)
+or_some (Some x) y h = absurd cc
+
+pub undeclared_before : (t : ℕ) (e : Made) (s : Story) → is_declared t (e ∷ s) ≡ false → is_declared t s ≡ false
+unfolding first_told
+undeclared_before t e s h = (or_some (facts_of t s) (facts_in t e.event) h).0
+
+or_stays : {A : Type 0} (x y : Option A) → is_some x ≡ true → is_some (or_else x y) ≡ true
+or_stays None y h = absurd cc
+or_stays (Some x) y h = refl
+
+pub authority_stays : (t : ℕ) (e : Made) (s : Story) → is_some (entry_authority t s) ≡ true → is_some (entry_authority t (e ∷ s)) ≡ true
+unfolding first_told
+authority_stays t e s h = or_stays (entry_authority t s) (taken_entry t (world_took e)) h
+
+pub unasked_same : (t : ℕ) (e : Made) (s : Story) → entry_in t e.event ≡ None → (is_declared t s ≡ false → first_entry t s ≡ None) → is_declared t (e ∷ s) ≡ false → first_entry t (e ∷ s) ≡ None
+unasked_same t e s h old d = same_told (λ (x : Made). entry_in t x.event) e s h ∙ old (undeclared_before t e s d)
+
+pub off_same : (t : ℕ) (e : Made) (s : Story) → enters t e.event ≡ false → (is_declared t s ≡ false → entered t s ≡ false) → is_declared t (e ∷ s) ≡ false → entered t (e ∷ s) ≡ false
+off_same t e s h old d = entered_same t e s h ∙ old (undeclared_before t e s d)
+
+pub holds_same : (t : ℕ) (e : Made) (s : Story) → enters t e.event ≡ false → (entered t s ≡ true → is_some (entry_authority t s) ≡ true) → entered t (e ∷ s) ≡ true → is_some (entry_authority t (e ∷ s)) ≡ true
+holds_same t e s h old d = authority_stays t e s (old (sym (entered_same t e s h) ∙ d))

@@ -1,0 +1,215 @@
+-- What the plain state tells is what the story tells.
+use Rattle.std.proofs.Common.{◌≡◌, ℕ, zero, suc, ◌≤◌, List, [], ◌∷◌, ◌++◌, Option, Some, None, Bool, true, false, ◌&&◌, refl, sym, ◌∙◌, ap, arith, not}
+use Rattle.std.proofs.lemmas.Bool.Decides.{nat_tests}
+use Rattle.std.proofs.lemmas.Bool.{eqb-true}
+use Rattle.std.specs.Prelude.{nat_eq, nat_lt, is_some}
+use Rattle.std.specs.List.{list_any}
+use Rattle.track_points.specs.declared.ids.DirSeg.{DirSeg}
+use Rattle.track_points.specs.declared.path.Path.{Path}
+use Rattle.track_points.proofs.Some.{by_test}
+use Rattle.definitions.specs.declared.item.Item.{Item}
+use Rattle.definitions.specs.declared.item.Item.TheVariants.{Zone, Segment, Joint, Portal, Buffer}
+use Rattle.definitions.specs.Track.{Line, ranged, has_zone}
+use Rattle.definitions.specs.Rules.{rule_of, is_any_zone, builds, finish_rule}
+use Rattle.definitions.specs.Premises.{any_train, is_actor}
+use Rattle.definitions.specs.Story.{Story, sent}
+use Rattle.definitions.specs.World.{Facts, facts_of, is_declared, first_entry, entered, HeldPath, entry_authority, last_number}
+use Rattle.definitions.specs.Control.{controls, knows, counted, last_issued}
+use Rattle.definitions.specs.Authority.{way}
+use Rattle.definitions.specs.Limit.{reach_from, limit}
+use Rattle.definitions.specs.Steps.{sender_of}
+use Rattle.definitions.specs.Safe.{IsLineOfOneZone}
+use Rattle.plain_state.specs.declared.WorldTrain.{WorldTrain}
+use Rattle.plain_state.specs.declared.ZoneTrain.{ZoneTrain}
+use Rattle.plain_state.specs.Plain.{Plain, zone_id, find_train, find_way, facts_found, entry_found, authority_found, on_found, number_found, path_found, last_found, ready_found, reach_plain, link}
+use Rattle.plain_state.specs.Admits.{no_trains}
+use Rattle.story_laws.proofs.Lines.{both}
+use Rattle.story_laws.proofs.Sound.{Sound}
+use Rattle.story_laws.proofs.Grant_moves.{way_far}
+use Rattle.story_laws.proofs.Every.{actor_zone}
+
+-- a train of the world and a train of the zone, by the notions
+abbrev pub world_of : ℕ → Option Facts → Option DirSeg → Option ℕ → Bool → ℕ → Option WorldTrain
+world_of t None entry authority on last = None
+world_of t (Some f) entry authority on last = Some (record {
+  id = record { 0 = t };
+  train_length = f.long;
+  error = f.error;
+  speed = f.speed;
+  entry = entry;
+  authority = authority;
+  entered = on;
+  last = last;
+})
+
+abbrev pub world_train : ℕ → Story → Option WorldTrain
+world_train t s = world_of t (facts_of t s) (first_entry t s) (sender_of (entry_authority t s)) (entered t s) (last_number t s)
+
+abbrev pub zone_train_of : ℕ → Option Path → ℕ → ℕ → Option ZoneTrain
+zone_train_of t None last answered = None
+zone_train_of t (Some path) last answered = Some (record { id = record { 0 = t }; path = path; last = last; answered = answered })
+
+abbrev pub zone_train : Line → ℕ → Story → Option ZoneTrain
+zone_train line t s = zone_train_of t (way line t s) (last_issued t s) (counted t s)
+
+pub record Linked (line : Line) (s : Story) (p : Plain) : Type 0 where
+  pub zone : p.zone ≡ zone_id line
+  pub trains : (t : ℕ) → find_train t p.trains ≡ world_train t s
+  pub ways : (t : ℕ) → find_way t p.ways ≡ zone_train line t s
+  pub to_zone : p.to_zone ≡ sent 0 (zone_id line) s
+  pub to_world : p.to_world ≡ sent (zone_id line) 0 s
+  pub none : no_trains p.trains ≡ not (any_train s)
+  pub unasked : (t : ℕ) → is_declared t s ≡ false → first_entry t s ≡ None
+  pub stays_off : (t : ℕ) → is_declared t s ≡ false → entered t s ≡ false
+  pub holds : (t : ℕ) → entered t s ≡ true → is_some (entry_authority t s) ≡ true
+
+-- The zone of a valid line is above 0.
+
+zone_ranged : (before : List Item) (z : ℕ) → rule_of before (Zone z) ≡ 0 → 1 ≤ z
+unfolding rule_of
+zone_ranged before z h = by_test (has_zone before z)
+    (λ y. absurd (let e : 2 ≡ 0 = rw y at h in cc))
+    (λ n. by_test (ranged 1 16 z)
+    (λ y. grind (arith, nat_tests))
+    (λ x. absurd (let e : 4 ≡ 0 = rw (n, x) at h in cc)))
+
+zone_above : (items before : List Item) → builds before items ≡ true → list_any is_any_zone items ≡ true → 1 ≤ zone_id items
+unfolding builds zone_id
+zone_above [] before b h = absurd cc
+zone_above (Zone z ∷ items) before b h = zone_ranged before z (eqb-true (rule_of before (Zone z)) 0 (both (nat_eq (rule_of before (Zone z)) 0) (builds (before ++ Zone z ∷ []) items) b).0)
+zone_above (Segment r z len ∷ items) before b h = zone_above items (before ++ Segment r z len ∷ []) (both (nat_eq (rule_of before (Segment r z len)) 0) _ b).1 h
+zone_above (Joint x y ∷ items) before b h = zone_above items (before ++ Joint x y ∷ []) (both (nat_eq (rule_of before (Joint x y)) 0) _ b).1 h
+zone_above (Portal x ∷ items) before b h = zone_above items (before ++ Portal x ∷ []) (both (nat_eq (rule_of before (Portal x)) 0) _ b).1 h
+zone_above (Buffer x ∷ items) before b h = zone_above items (before ++ Buffer x ∷ []) (both (nat_eq (rule_of before (Buffer x)) 0) _ b).1 h
+
+some_zone : (line : Line) → finish_rule line ≡ 0 → list_any is_any_zone line ≡ true
+unfolding finish_rule
+some_zone line h = by_test (list_any is_any_zone line) (λ y. y) (λ n. absurd (let e : 1 ≡ 0 = rw n at h in cc))
+
+pub zone_positive : (line : Line) → IsLineOfOneZone line → 1 ≤ zone_id line
+zone_positive line l =
+    let k = both (builds [] line) (nat_eq (finish_rule line) 0) l.valid in
+    zone_above line [] k.0 (some_zone line (eqb-true (finish_rule line) 0 k.1))
+
+-- What is found.
+
+facts_of_world : (t : ℕ) (f : Option Facts) (e : Option DirSeg) (a : Option ℕ) (o : Bool) (n : ℕ) → facts_found (world_of t f e a o n) ≡ f
+facts_of_world t None e a o n = refl
+facts_of_world t (Some f) e a o n = refl
+
+entry_of_world : (t : ℕ) (f : Option Facts) (e : Option DirSeg) (a : Option ℕ) (o : Bool) (n : ℕ) → (is_some f ≡ false → e ≡ None) → entry_found (world_of t f e a o n) ≡ e
+entry_of_world t None e a o n h = sym (h refl)
+entry_of_world t (Some f) e a o n h = refl
+
+authority_of_world : (t : ℕ) (f : Option Facts) (e : Option DirSeg) (a : Option ℕ) (o : Bool) (n : ℕ) → (is_some f ≡ false → a ≡ None) → authority_found (world_of t f e a o n) ≡ a
+authority_of_world t None e a o n h = sym (h refl)
+authority_of_world t (Some f) e a o n h = refl
+
+on_of_world : (t : ℕ) (f : Option Facts) (e : Option DirSeg) (a : Option ℕ) (o : Bool) (n : ℕ) → (is_some f ≡ false → o ≡ false) → on_found (world_of t f e a o n) ≡ o
+on_of_world t None e a o n h = sym (h refl)
+on_of_world t (Some f) e a o n h = refl
+
+number_of_world : (t : ℕ) (f : Option Facts) (e : Option DirSeg) (a : Option ℕ) (o : Bool) (n : ℕ) → (is_some f ≡ false → n ≡ 0) → number_found (world_of t f e a o n) ≡ n
+number_of_world t None e a o n h = sym (h refl)
+number_of_world t (Some f) e a o n h = refl
+
+some_of_world : (t : ℕ) (f : Option Facts) (e : Option DirSeg) (a : Option ℕ) (o : Bool) (n : ℕ) → is_some (world_of t f e a o n) ≡ is_some f
+some_of_world t None e a o n = refl
+some_of_world t (Some f) e a o n = refl
+
+path_of_zone : (t : ℕ) (w : Option Path) (last answered : ℕ) → path_found (zone_train_of t w last answered) ≡ w
+path_of_zone t None last answered = refl
+path_of_zone t (Some path) last answered = refl
+
+last_of_zone : (t : ℕ) (w : Option Path) (last answered : ℕ) → (w ≡ None → last ≡ 0) → last_found (zone_train_of t w last answered) ≡ last
+last_of_zone t None last answered h = sym (h refl)
+last_of_zone t (Some path) last answered h = refl
+
+some_of_zone : (t : ℕ) (w : Option Path) (last answered : ℕ) → is_some (zone_train_of t w last answered) ≡ is_some w
+some_of_zone t None last answered = refl
+some_of_zone t (Some path) last answered = refl
+
+ready_of_zone : (t : ℕ) (w : Option Path) (last answered : ℕ) → (w ≡ None → answered ≡ 0) → ready_found (zone_train_of t w last answered) ≡ (is_some w && nat_lt 0 answered)
+ready_of_zone t None last answered h = refl
+ready_of_zone t (Some path) last answered h = refl
+
+-- a train without facts is unknown to the zone
+unknown : (line : Line) (t : ℕ) (s : Story) → Sound line t s → is_declared t s ≡ false → controls (zone_id line) t s ≡ false
+unknown line t s sound h = by_test (controls (zone_id line) t s)
+    (λ y. absurd (let a = sound.declared y in cc))
+    (λ n. n)
+
+pub no_authority : (line : Line) (t : ℕ) (s : Story) → Sound line t s → is_declared t s ≡ false → sender_of (entry_authority t s) ≡ None
+no_authority line t s sound h = none (entry_authority t s) refl
+  where
+    none : (a : Option HeldPath) → entry_authority t s ≡ a → sender_of (entry_authority t s) ≡ None
+    none None e = rw e refl
+    none (Some a) e = absurd (let x = sound.authority_some a e in let y = sound.unknown_last (unknown line t s sound h) in omega arith)
+
+pub no_number : (line : Line) (t : ℕ) (s : Story) → Sound line t s → is_declared t s ≡ false → last_number t s ≡ 0
+no_number line t s sound h = let a = sound.last_most in let b = sound.unknown_last (unknown line t s sound h) in omega arith
+
+-- whether a train has a way is whether it is controlled
+pub way_is_known : (line : Line) (t : ℕ) (s : Story) → Sound line t s → is_some (way line t s) ≡ controls (zone_id line) t s
+way_is_known line t s sound = by_test (controls (zone_id line) t s)
+    (λ y. let w = sound.way_is y in ap (λ (x : Option Path). is_some x) (way_far line t s sound ∙ w.is) ∙ sym y)
+    (λ n. ap (λ (x : Option Path). is_some x) (way_far line t s sound ∙ sound.unknown_way n) ∙ sym n)
+
+pub no_way_unknown : (line : Line) (t : ℕ) (s : Story) → Sound line t s → way line t s ≡ None → controls (zone_id line) t s ≡ false
+no_way_unknown line t s sound h = sym (way_is_known line t s sound) ∙ ap (λ (x : Option Path). is_some x) h
+
+module _ (line : Line) (s : Story) (p : Plain) (l : IsLineOfOneZone line) (k : Linked line s p) (sound : (t : ℕ) → Sound line t s) where
+  pub facts_is : (t : ℕ) → facts_found (find_train t p.trains) ≡ facts_of t s
+  facts_is t = ap (λ (x : Option WorldTrain). facts_found x) (k.trains t) ∙ facts_of_world t (facts_of t s) _ _ _ _
+
+  pub declared_is : (t : ℕ) → is_some (find_train t p.trains) ≡ is_declared t s
+  declared_is t = ap (λ (x : Option WorldTrain). is_some x) (k.trains t) ∙ some_of_world t (facts_of t s) _ _ _ _
+
+  pub entry_is : (t : ℕ) → entry_found (find_train t p.trains) ≡ first_entry t s
+  entry_is t = ap (λ (x : Option WorldTrain). entry_found x) (k.trains t) ∙ entry_of_world t (facts_of t s) (first_entry t s) _ _ _ (k.unasked t)
+
+  pub authority_is : (t : ℕ) → authority_found (find_train t p.trains) ≡ sender_of (entry_authority t s)
+  authority_is t = ap (λ (x : Option WorldTrain). authority_found x) (k.trains t) ∙ authority_of_world t (facts_of t s) _ (sender_of (entry_authority t s)) _ _ (no_authority line t s (sound t))
+
+  pub on_is : (t : ℕ) → on_found (find_train t p.trains) ≡ entered t s
+  on_is t = ap (λ (x : Option WorldTrain). on_found x) (k.trains t) ∙ on_of_world t (facts_of t s) _ _ (entered t s) _ (k.stays_off t)
+
+  pub number_is : (t : ℕ) → number_found (find_train t p.trains) ≡ last_number t s
+  number_is t = ap (λ (x : Option WorldTrain). number_found x) (k.trains t) ∙ number_of_world t (facts_of t s) _ _ _ (last_number t s) (no_number line t s (sound t))
+
+  pub path_is : (t : ℕ) → path_found (find_way t p.ways) ≡ way line t s
+  path_is t = ap (λ (x : Option ZoneTrain). path_found x) (k.ways t) ∙ path_of_zone t (way line t s) _ _
+
+  pub last_is : (t : ℕ) → last_found (find_way t p.ways) ≡ last_issued t s
+  last_is t = ap (λ (x : Option ZoneTrain). last_found x) (k.ways t) ∙ last_of_zone t (way line t s) (last_issued t s) (counted t s) (λ h. (sound t).unknown_last (no_way_unknown line t s (sound t) h))
+
+  pub known_is : (t : ℕ) → is_some (find_way t p.ways) ≡ knows (zone_id line) t s
+  known_is t = ap (λ (x : Option ZoneTrain). is_some x) (k.ways t) ∙ (some_of_zone t (way line t s) _ _ ∙ way_is_known line t s (sound t))
+
+  pub ready_is : (t : ℕ) → ready_found (find_way t p.ways) ≡ (controls (zone_id line) t s && nat_lt 0 (counted t s))
+  ready_is t =
+      ap (λ (x : Option ZoneTrain). ready_found x) (k.ways t)
+      ∙ (ready_of_zone t (way line t s) (last_issued t s) (counted t s) (λ h. let a = (sound t).counted_most in let b = (sound t).unknown_last (no_way_unknown line t s (sound t) h) in omega arith)
+      ∙ ap (λ (b : Bool). b && nat_lt 0 (counted t s)) (way_is_known line t s (sound t)))
+
+  pub reach_is : (t : ℕ) (asked : List DirSeg) (to : ℕ) → reach_plain line (find_way t p.ways) asked to ≡ limit line (zone_id line) t s asked to
+  reach_is t asked to =
+      ap (λ (b : Bool). reach_from line b (path_found (find_way t p.ways)) asked to) (ready_is t)
+      ∙ ap (λ (w : Option Path). reach_from line (controls (zone_id line) t s && nat_lt 0 (counted t s)) w asked to) (path_is t)
+
+  -- the messages of the link between two different actors of the line
+  pub link_is : (from to : ℕ) → nat_eq to from ≡ false → is_actor line to ≡ true → is_actor line from ≡ true → link p from to ≡ sent from to s
+  link_is zero zero h a b = absurd cc
+  link_is zero (suc to) h a b =
+      let z = actor_zone line to l a in
+      let same : nat_eq (suc to) p.zone ≡ true = let e = k.zone in grind (arith, nat_tests) in
+      rw same (k.to_zone ∙ ap (λ (n : ℕ). sent 0 n s) (sym z))
+  link_is (suc from) zero h a b =
+      let z = actor_zone line from l b in
+      let other : nat_eq (suc from) 0 ≡ false = grind (arith, nat_tests) in
+      let same : nat_eq (suc from) p.zone ≡ true = let e = k.zone in grind (arith, nat_tests) in
+      rw (other, same) (k.to_world ∙ ap (λ (n : ℕ). sent n 0 s) (sym z))
+  link_is (suc from) (suc to) h a b =
+      let y = actor_zone line from l b in
+      let z = actor_zone line to l a in
+      absurd (let same : nat_eq (suc to) (suc from) ≡ true = grind (arith, nat_tests) in cc)

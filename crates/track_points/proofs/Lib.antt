@@ -1,0 +1,3 @@
+pub mod Some
+pub mod Places
+pub mod Between

@@ -1,0 +1,4 @@
+pub mod First
+pub mod OnSteps
+pub mod Reaches
+pub mod Found

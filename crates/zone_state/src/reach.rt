@@ -1,0 +1,122 @@
+//! How far an ask reaches.
+ghost use Rattle.std.specs.Prelude.{◌≡◌, ◌≤◌, ◌<◌, ◌+◌, ◌*◌, length, take, Some, true, max, nat_lt};
+ghost use Rattle.track_points.specs.Points.{total, place_of_last, end_place};
+ghost use Rattle.definitions.specs.Track.{seg_len};
+ghost use Rattle.definitions.specs.Limit.{reach_on, reach_from, asked_way};
+ghost use Rattle.zone_state.specs.Zone.{nearer, stop_on, reach_value, path_fits};
+
+use crate::steps::{asked_way, continues, last_step, length_of, place_of_last, total};
+use definitions::outcome::Obstacle;
+use line_map::Line;
+use track_points::{DirSeg, Path};
+
+/// How far an extension reaches beyond the end of a way, in mm, and what stops it there.
+#[derive(Clone, Copy, PartialEq, Eq, Debug)]
+pub struct Reach {
+    pub distance: u32,
+    pub obstacle: Obstacle,
+}
+
+/// An obstacle at a place.
+#[derive(Clone, Copy)]
+pub(crate) struct Stop {
+    place: u64,
+    obstacle: Obstacle,
+}
+
+/// Of two obstacles the nearer one, the first at a tie. One before the limit does not stand.
+fn nearer(limit: u64, stands: bool, other: Stop, so_far: Stop) -> Stop
+    ensures { result ≡ nearer limit stands other so_far }
+{
+    if stands && limit <= other.place && other.place < so_far.place {
+        other
+    } else {
+        so_far
+    }
+}
+
+/// The first 24 steps.
+fn first_steps(asked: &[DirSeg]) -> &[DirSeg]
+    ensures steps { result.now ≡ take 24 asked.now }
+    ensures few { length result.now ≤ 24 }
+{
+    if asked.len() > 24 {
+        &asked[..24]
+    } else {
+        asked
+    }
+}
+
+/// The first obstacle on an asked way, from the place of the limit on.
+#[tactic(auto, using(crate::proofs::Reaches::stop_after, crate::proofs::Reaches::stop_within))]
+fn stop_on(line: &Line, asked: &[DirSeg], limit: u64, to: u32) -> Stop
+    requires few { length asked.now ≤ 48 }
+    requires some { 0 < length asked.now }
+    requires near { limit ≤ total (seg_len line.now) (take 24 asked.now) }
+    ensures stop { result ≡ stop_on (seg_len line.now) asked.now limit to }
+    ensures after { limit ≤ result.place }
+    ensures within { result.place ≤ total (seg_len line.now) (take 24 asked.now) }
+    ensures most { result.place ≤ 240000000 }
+{
+    let ask_ends = Stop {
+        place: limit.max(place_of_last(line, asked, to)),
+        obstacle: Obstacle::AskEnds,
+    };
+    let track_ends = Stop {
+        place: total(line, asked),
+        obstacle: Obstacle::TrackEnds,
+    };
+    let path_full = Stop {
+        place: total(line, first_steps(asked)),
+        obstacle: Obstacle::PathFull,
+    };
+    let beyond_track = length_of(line, last_step(asked).seg) < to;
+    nearer(
+        limit,
+        asked.len() > 24,
+        path_full,
+        nearer(limit, beyond_track, track_ends, ask_ends),
+    )
+}
+
+/// How far an ask reaches on the asked way.
+#[tactic(auto, using(crate::proofs::Reaches::reach_is))]
+fn reach_on(line: &Line, asked: &[DirSeg], limit: u64, to: u32) -> Reach
+    requires few { length asked.now ≤ 48 }
+    requires some { 0 < length asked.now }
+    requires near { limit ≤ total (seg_len line.now) (take 24 asked.now) }
+    ensures reach { reach_value result ≡ reach_on (seg_len line.now) asked.now limit to }
+    ensures within { limit + result.distance ≤ total (seg_len line.now) (take 24 asked.now) }
+{
+    let stop = stop_on(line, asked, limit, to);
+    Reach {
+        distance: (stop.place - limit) as u32,
+        obstacle: stop.obstacle,
+    }
+}
+
+/// How far an ask reaches beyond the end of a way. An ask of a train that is not ready, or that does not continue the
+/// way, is barred.
+#[tactic(auto, using(crate::proofs::OnSteps::total_within))]
+pub fn reach_from(line: &Line, ready: bool, path: &Path, asked: &[DirSeg], to: u32) -> Reach
+    requires few { length asked.now ≤ 24 }
+    requires fits { path_fits (seg_len line.now) path.now ≡ true }
+    ensures reach { reach_value result ≡ reach_from line.now ready (Some path.now) asked.now to }
+    ensures within { end_place (seg_len line.now) path.now + result.distance ≤ total (seg_len line.now) (take 24 (asked_way path.now.steps.items asked.now)) }
+{
+    let steps = path.steps.as_slice();
+    let way = asked_way(steps, asked);
+    if ready && continues(line, steps, asked, way.as_slice()) {
+        reach_on(
+            line,
+            way.as_slice(),
+            place_of_last(line, steps, path.to),
+            to,
+        )
+    } else {
+        Reach {
+            distance: 0,
+            obstacle: Obstacle::NotJoined,
+        }
+    }
+}
