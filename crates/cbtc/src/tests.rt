@@ -36,6 +36,18 @@ const ONE_TRAIN: &str = "entry 1 7 1\nanswer 7 1 taken\ngrant 1 7 2 3+ 300000 1\
 
 const RUN: &[&str] = &["run"];
 
+/// Four trains, the last of them longer than a portal's segment: text lines 11 to 15.
+const TRAINS: &str =
+    "script\ntrain 7 60000 2000 20000 eq\ntrain 8 60000 2000 20000 eq\ntrain 9 60000 2000 20000 eq\ntrain 10 100001 2000 20000 eq\n";
+
+/// Two of them come on, one from each portal: text lines 16 to 25. Behind them 4 messages went to the zone.
+const BOTH_ON: &str =
+    "entry 7 1+\ntake 1 0 1\nentry 8 4-\ntake 1 0 2\ntake 0 1 1\ntake 0 1 2\nenter 7\nenter 8\ntake 1 0 3\ntake 1 0 4\n";
+
+/// 26 segments of 1000 mm in one zone, a portal at each end: text lines 1 to 54.
+const SHORT_SEGMENTS: &str =
+    "zone 1\nsegment 1 1 1000\nsegment 2 1 1000\nsegment 3 1 1000\nsegment 4 1 1000\nsegment 5 1 1000\nsegment 6 1 1000\nsegment 7 1 1000\nsegment 8 1 1000\nsegment 9 1 1000\nsegment 10 1 1000\nsegment 11 1 1000\nsegment 12 1 1000\nsegment 13 1 1000\nsegment 14 1 1000\nsegment 15 1 1000\nsegment 16 1 1000\nsegment 17 1 1000\nsegment 18 1 1000\nsegment 19 1 1000\nsegment 20 1 1000\nsegment 21 1 1000\nsegment 22 1 1000\nsegment 23 1 1000\nsegment 24 1 1000\nsegment 25 1 1000\nsegment 26 1 1000\nportal 1-\njoint 1+ 2-\njoint 2+ 3-\njoint 3+ 4-\njoint 4+ 5-\njoint 5+ 6-\njoint 6+ 7-\njoint 7+ 8-\njoint 8+ 9-\njoint 9+ 10-\njoint 10+ 11-\njoint 11+ 12-\njoint 12+ 13-\njoint 13+ 14-\njoint 14+ 15-\njoint 15+ 16-\njoint 16+ 17-\njoint 17+ 18-\njoint 18+ 19-\njoint 19+ 20-\njoint 20+ 21-\njoint 21+ 22-\njoint 22+ 23-\njoint 23+ 24-\njoint 24+ 25-\njoint 25+ 26-\nportal 26+\n";
+
 /// What a run and other words give.
 const WORKED: &[Row<'static>] = &[
     Row {
@@ -97,6 +109,19 @@ const WORKED: &[Row<'static>] = &[
         room: 1000,
         status: Status::Done,
         text: "entry 1 7 1\nanswer 7 1 taken\ngrant 1 7 2 3+ 300000 1\ndone 8\n",
+    },
+    Row {
+        name: "oncoming trains stop at the held cell",
+        words: RUN,
+        input: &[
+            LINE,
+            "script\ntrain 7 60000 2000 20000 eq\ntrain 8 60000 2000 20000 eq\nentry 7 1+\ntake 1 0 1\nentry 8 4-\ntake 1 0 2\ntake 0 1 1\ntake 0 1 2\nenter 7\nenter 8\ntake 1 0 3\ntake 1 0 4\nask 7 1 2+ 3+ 100000\nask 8 1 3- 2- 300000\ntake 1 0 5\ntake 1 0 6\nask 8 1 3- 2- 300000\ntake 1 0 7\n",
+        ],
+        reads: &[],
+        writes: &[],
+        room: 1000,
+        status: Status::Done,
+        text: "entry 1 7 1\nentry 1 8 1\nanswer 7 1 taken\nanswer 8 1 taken\ngrant 1 7 2 3+ 100000 1\ngrant 1 8 2 3- 200000 3\ndeny 1 8 3\ndone 18\n",
     },
     Row {
         name: "step is not built",
@@ -461,16 +486,6 @@ const TEXTS: &[Row<'static>] = &[
         text: "unbuilt 11\n",
     },
     Row {
-        name: "a second train",
-        words: RUN,
-        input: &[LINE, ASKS, "train 8 60000 2000 20000 eq\n"],
-        reads: &[],
-        writes: &[],
-        room: 1000,
-        status: Status::Unbuilt,
-        text: "unbuilt 14\n",
-    },
-    Row {
         name: "a train not declared",
         words: RUN,
         input: &[LINE, "script\nenter 7\n"],
@@ -644,6 +659,269 @@ const MESSAGES: &[Row<'static>] = &[
     },
 ];
 
+/// Several trains: what is held for one stops another.
+const SEVERAL: &[Row<'static>] = &[
+    Row {
+        name: "an entry over a held portal segment",
+        words: RUN,
+        input: &[
+            LINE,
+            TRAINS,
+            "entry 7 1+\ntake 1 0 1\nentry 8 1+\ntake 1 0 2\n",
+        ],
+        reads: &[],
+        writes: &[],
+        room: 1000,
+        status: Status::Done,
+        text: "entry 1 7 1\nnoentry 1 8 held 7\ndone 8\n",
+    },
+    Row {
+        name: "a third train finds the first",
+        words: RUN,
+        input: &[LINE, TRAINS, BOTH_ON, "entry 9 1+\ntake 1 0 5\n"],
+        reads: &[],
+        writes: &[],
+        room: 1000,
+        status: Status::Done,
+        text: "entry 1 7 1\nentry 1 8 1\nanswer 7 1 taken\nanswer 8 1 taken\nnoentry 1 9 held 7\ndone 16\n",
+    },
+    Row {
+        name: "a third train finds the second",
+        words: RUN,
+        input: &[LINE, TRAINS, BOTH_ON, "entry 9 4-\ntake 1 0 5\n"],
+        reads: &[],
+        writes: &[],
+        room: 1000,
+        status: Status::Done,
+        text: "entry 1 7 1\nentry 1 8 1\nanswer 7 1 taken\nanswer 8 1 taken\nnoentry 1 9 held 8\ndone 16\n",
+    },
+    Row {
+        name: "a portal segment held by one mm from behind",
+        words: RUN,
+        input: &[
+            LINE,
+            TRAINS,
+            "entry 8 4-\ntake 1 0 1\ntake 0 1 1\nenter 8\ntake 1 0 2\nask 8 1 3- 2- 1- 1\ntake 1 0 3\nentry 7 1+\ntake 1 0 4\n",
+        ],
+        reads: &[],
+        writes: &[],
+        room: 1000,
+        status: Status::Done,
+        text: "entry 1 8 1\nanswer 8 1 taken\ngrant 1 8 2 1- 1 1\nnoentry 1 7 held 8\ndone 13\n",
+    },
+    Row {
+        name: "too long is told before held",
+        words: RUN,
+        input: &[LINE, TRAINS, BOTH_ON, "entry 10 1+\ntake 1 0 5\n"],
+        reads: &[],
+        writes: &[],
+        room: 1000,
+        status: Status::Done,
+        text: "entry 1 7 1\nentry 1 8 1\nanswer 7 1 taken\nanswer 8 1 taken\nnoentry 1 10 toolong\ndone 16\n",
+    },
+    Row {
+        name: "known is told before held",
+        words: RUN,
+        input: &[LINE, TRAINS, BOTH_ON, "entry 7 1+\ntake 1 0 5\n"],
+        reads: &[],
+        writes: &[],
+        room: 1000,
+        status: Status::Done,
+        text: "entry 1 7 1\nentry 1 8 1\nanswer 7 1 taken\nanswer 8 1 taken\nnoentry 1 7 known\ndone 16\n",
+    },
+    Row {
+        name: "a refused train is not controlled",
+        words: RUN,
+        input: &[
+            LINE,
+            TRAINS,
+            BOTH_ON,
+            "entry 9 1+\ntake 1 0 5\nask 9 1 2+ 100000\ntake 1 0 6\n",
+        ],
+        reads: &[],
+        writes: &[],
+        room: 1000,
+        status: Status::Done,
+        text: "entry 1 7 1\nentry 1 8 1\nanswer 7 1 taken\nanswer 8 1 taken\nnoentry 1 9 held 7\ndeny 1 9 10\ndone 18\n",
+    },
+    Row {
+        name: "a held cell going up",
+        words: RUN,
+        input: &[
+            LINE,
+            TRAINS,
+            BOTH_ON,
+            "ask 8 1 3- 200000\ntake 1 0 5\nask 7 1 2+ 3+ 300000\ntake 1 0 6\n",
+        ],
+        reads: &[],
+        writes: &[],
+        room: 1000,
+        status: Status::Done,
+        text: "entry 1 7 1\nentry 1 8 1\nanswer 7 1 taken\nanswer 8 1 taken\ngrant 1 8 2 3- 200000 1\ngrant 1 7 2 3+ 100000 3\ndone 18\n",
+    },
+    Row {
+        name: "a held cell going down",
+        words: RUN,
+        input: &[
+            LINE,
+            TRAINS,
+            BOTH_ON,
+            "ask 7 1 2+ 3+ 100000\ntake 1 0 5\nask 8 1 3- 2- 300000\ntake 1 0 6\n",
+        ],
+        reads: &[],
+        writes: &[],
+        room: 1000,
+        status: Status::Done,
+        text: "entry 1 7 1\nentry 1 8 1\nanswer 7 1 taken\nanswer 8 1 taken\ngrant 1 7 2 3+ 100000 1\ngrant 1 8 2 3- 200000 3\ndone 18\n",
+    },
+    Row {
+        name: "a held cell at the end of the ask",
+        words: RUN,
+        input: &[
+            LINE,
+            TRAINS,
+            BOTH_ON,
+            "ask 8 1 3- 200000\ntake 1 0 5\nask 7 1 2+ 3+ 100000\ntake 1 0 6\n",
+        ],
+        reads: &[],
+        writes: &[],
+        room: 1000,
+        status: Status::Done,
+        text: "entry 1 7 1\nentry 1 8 1\nanswer 7 1 taken\nanswer 8 1 taken\ngrant 1 8 2 3- 200000 1\ngrant 1 7 2 3+ 100000 1\ndone 18\n",
+    },
+    Row {
+        name: "a held cell one mm before the end of the ask",
+        words: RUN,
+        input: &[
+            LINE,
+            TRAINS,
+            BOTH_ON,
+            "ask 8 1 3- 200000\ntake 1 0 5\nask 7 1 2+ 3+ 100001\ntake 1 0 6\n",
+        ],
+        reads: &[],
+        writes: &[],
+        room: 1000,
+        status: Status::Done,
+        text: "entry 1 7 1\nentry 1 8 1\nanswer 7 1 taken\nanswer 8 1 taken\ngrant 1 8 2 3- 200000 1\ngrant 1 7 2 3+ 100000 3\ndone 18\n",
+    },
+    Row {
+        name: "a held cell at the limit",
+        words: RUN,
+        input: &[
+            LINE,
+            TRAINS,
+            BOTH_ON,
+            "ask 8 1 3- 2- 300000\ntake 1 0 5\nask 7 1 2+ 100000\ntake 1 0 6\n",
+        ],
+        reads: &[],
+        writes: &[],
+        room: 1000,
+        status: Status::Done,
+        text: "entry 1 7 1\nentry 1 8 1\nanswer 7 1 taken\nanswer 8 1 taken\ngrant 1 8 2 2- 300000 1\ndeny 1 7 3\ndone 18\n",
+    },
+    Row {
+        name: "the end of the ask and a held cell at the limit",
+        words: RUN,
+        input: &[
+            LINE,
+            TRAINS,
+            BOTH_ON,
+            "ask 7 1 2+ 100000\ntake 1 0 5\nask 8 1 3- 2- 300000\ntake 1 0 6\nask 7 1 2+ 100000\ntake 1 0 7\nask 7 1 2+ 100001\ntake 1 0 8\n",
+        ],
+        reads: &[],
+        writes: &[],
+        room: 1000,
+        status: Status::Done,
+        text: "entry 1 7 1\nentry 1 8 1\nanswer 7 1 taken\nanswer 8 1 taken\ngrant 1 7 2 2+ 100000 1\ngrant 1 8 2 2- 200000 3\ndeny 1 7 1\ndeny 1 7 3\ndone 22\n",
+    },
+    Row {
+        name: "an ask over its own cells",
+        words: RUN,
+        input: &[
+            LINE,
+            TRAINS,
+            BOTH_ON,
+            "ask 7 1 1+ 2+ 100000\ntake 1 0 5\nask 7 1 2+ 3+ 50000\ntake 1 0 6\n",
+        ],
+        reads: &[],
+        writes: &[],
+        room: 1000,
+        status: Status::Done,
+        text: "entry 1 7 1\nentry 1 8 1\nanswer 7 1 taken\nanswer 8 1 taken\ngrant 1 7 2 2+ 100000 1\ngrant 1 7 3 3+ 50000 1\ndone 18\n",
+    },
+    Row {
+        name: "a held cell where the path is full",
+        words: RUN,
+        input: &[
+            SHORT_SEGMENTS,
+            "script\ntrain 7 1000 10 100 eq\ntrain 8 1000 10 100 eq\nentry 7 1+\ntake 1 0 1\nentry 8 26-\ntake 1 0 2\ntake 0 1 1\ntake 0 1 2\nenter 7\nenter 8\ntake 1 0 3\ntake 1 0 4\nask 8 1 25- 1000\ntake 1 0 5\nask 7 1 2+ 3+ 4+ 5+ 6+ 7+ 8+ 9+ 10+ 11+ 12+ 13+ 14+ 15+ 16+ 17+ 18+ 19+ 20+ 21+ 22+ 23+ 24+ 25+ 1000\ntake 1 0 6\n",
+        ],
+        reads: &[],
+        writes: &[],
+        room: 1000,
+        status: Status::Done,
+        text: "entry 1 7 1\nentry 1 8 1\nanswer 7 1 taken\nanswer 8 1 taken\ngrant 1 8 2 25- 1000 1\ngrant 1 7 2 24+ 1000 3\ndone 16\n",
+    },
+    Row {
+        name: "a train declared again",
+        words: RUN,
+        input: &[LINE, TRAINS, "train 8 50000 1000 10000 eq\n"],
+        reads: &[],
+        writes: &[],
+        room: 1000,
+        status: Status::Unbuilt,
+        text: "unbuilt 16\n",
+    },
+    Row {
+        name: "a train declared again once it is on",
+        words: RUN,
+        input: &[LINE, TRAINS, BOTH_ON, "train 7 60000 2000 20000 eq\n"],
+        reads: &[],
+        writes: &[],
+        room: 1000,
+        status: Status::Unbuilt,
+        text: "entry 1 7 1\nentry 1 8 1\nanswer 7 1 taken\nanswer 8 1 taken\nunbuilt 26\n",
+    },
+    Row {
+        name: "the entry authority of another train",
+        words: RUN,
+        input: &[
+            LINE,
+            TRAINS,
+            "entry 7 1+\ntake 1 0 1\ntake 0 1 1\nenter 8\n",
+        ],
+        reads: &[],
+        writes: &[],
+        room: 1000,
+        status: Status::Premise,
+        text: "entry 1 7 1\npremise 19 P5\n",
+    },
+    Row {
+        name: "the first portal of another train",
+        words: RUN,
+        input: &[LINE, TRAINS, BOTH_ON, "entry 8 1+\n"],
+        reads: &[],
+        writes: &[],
+        room: 1000,
+        status: Status::Premise,
+        text: "entry 1 7 1\nentry 1 8 1\nanswer 7 1 taken\nanswer 8 1 taken\npremise 26 P5\n",
+    },
+    Row {
+        name: "the counted answer of another train",
+        words: RUN,
+        input: &[
+            LINE,
+            TRAINS,
+            "entry 7 1+\ntake 1 0 1\nentry 8 4-\ntake 1 0 2\ntake 0 1 1\ntake 0 1 2\nenter 7\nenter 8\ntake 1 0 3\nask 8 1 3- 100000\ntake 1 0 5\n",
+        ],
+        reads: &[],
+        writes: &[],
+        room: 1000,
+        status: Status::Done,
+        text: "entry 1 7 1\nentry 1 8 1\nanswer 7 1 taken\nanswer 8 1 taken\ndeny 1 8 10\ndone 15\n",
+    },
+];
+
 fn strings(alloc: Global, words: &[&str]) -> Result<Vec<String>, AllocError> {
     let mut all = Vec::new(alloc);
     for word in words {
@@ -674,7 +952,7 @@ fn given(alloc: Global, row: &Row<'_>) -> Result<(Status, Vec<u8>), AllocError> 
 
 #[test]
 fn documents(rt: HostRuntime) -> Result<(), AllocError> {
-    for table in [WORKED, RULES, FAULTS, TEXTS, MESSAGES] {
+    for table in [WORKED, RULES, FAULTS, TEXTS, MESSAGES, SEVERAL] {
         for row in table {
             let (status, text) = given(rt.alloc(), row)?;
             assert_eq!(rt; status, row.status, "{}", row.name);
@@ -740,5 +1018,36 @@ fn too_many_segments(rt: HostRuntime) -> Result<(), AllocError> {
     let status = cbtc_top(alloc, &words, &mut src, &mut sink, &NoGate);
     assert_eq!(rt; status, Status::Line);
     assert_eq!(rt; sink.bytes(), b"line 514 rule 5\n".as_slice());
+    Ok(())
+}
+
+/// 256 trains may be declared, and no more. The first of them is text line 12, the 257th would be text line 268; a train
+/// that is declared already is refused as such, however many there are.
+#[test]
+fn too_many_trains(rt: HostRuntime) -> Result<(), AllocError> {
+    let alloc = rt.alloc();
+    let words = strings(alloc, RUN)?;
+    for (trains, more, status, text) in [
+        (256u32, "", Status::Done, "done 256\n"),
+        (
+            256u32,
+            "train 256 1000 10 100 eq\n",
+            Status::Unbuilt,
+            "unbuilt 268\n",
+        ),
+        (257u32, "", Status::Limit, "limit trains 256\n"),
+    ] {
+        let mut input = joined(alloc, &[LINE, "script\n"])?;
+        for id in 1..trains + 1 {
+            let line = format!(in alloc; "train {id} 1000 10 100 eq\n")?;
+            input.extend_from_slice(line.as_bytes())?;
+        }
+        input.extend_from_slice(more.as_bytes())?;
+        let mut src = SliceSource::new(&input, &[]);
+        let mut sink = VecSink::new(alloc, 1000, &[])?;
+        let given = cbtc_top(alloc, &words, &mut src, &mut sink, &NoGate);
+        assert_eq!(rt; given, status, "{text}");
+        assert_eq!(rt; sink.bytes(), text.as_bytes(), "{text}");
+    }
     Ok(())
 }

@@ -1,12 +1,13 @@
 -- Longest authority, what is held for a train, and where its front may be.
-use Rattle.std.specs.Prelude.{ℕ, ◌+◌, List, [], ◌∷◌, if◌then◌else◌, Bool, false, ◌&&◌, nat_eq, nat_lt, nat_le, Option, Some, None}
+use Rattle.std.specs.Prelude.{ℕ, ◌+◌, List, [], ◌∷◌, if◌then◌else◌, Bool, false, ◌&&◌, not, min, nat_eq, nat_lt, nat_le, Option, Some, None}
 use Rattle.track_points.specs.declared.path.Path.{Path}
-use Rattle.track_points.specs.Points.{Lengths, Point, some_below, cell_at, is_at, end_place, path_has}
+use Rattle.track_points.specs.Points.{Lengths, Point, Cell, some_below, cell_at, is_at, end_place, path_has}
 use Rattle.definitions.specs.declared.message.Msg.{Msg}
 use Rattle.definitions.specs.declared.message.Msg.TheVariants as msg
 use Rattle.definitions.specs.Track.{Line, seg_len, owner}
 use Rattle.definitions.specs.Story.{Story}
-use Rattle.definitions.specs.Control.{grants_entry, asked_long, known_long, controls, counted}
+use Rattle.definitions.specs.Control.{grants_entry, asked_long, known_long, known_trains, controls, counted}
+use Rattle.std.specs.List.{list_any}
 
 -- the one of two paths that ends farther
 abbrev pub farther : Lengths → Option Path → Option Path → Option Path
@@ -39,6 +40,23 @@ way_has len None point = false
 -- Held: where the zone controls the train, the points of its way in the zone's own track
 abbrev pub held : Line → ℕ → ℕ → Story → Point → Bool
 held line z t s point = controls z t s && (nat_eq (owner line point) z && way_has (seg_len line) (way line t s) point)
+
+-- the zone holds the point for another train than this one
+abbrev pub held_else : Line → ℕ → ℕ → Story → Point → Bool
+held_else line z t s point = list_any (λ u. not (nat_eq u t) && held line z u s point) (known_trains z s)
+
+abbrev pub less_of : ℕ → Option ℕ → ℕ
+less_of x None = x
+less_of x (Some y) = min x y
+
+-- the least of some numbers that passes
+unfoldable pub least_of : (ℕ → Bool) → List ℕ → Option ℕ
+least_of test [] = None
+least_of test (x ∷ xs) = if test x then Some (less_of x (least_of test xs)) else least_of test xs
+
+-- the least train for which the zone holds a cell of a segment
+abbrev pub holder_of : Line → ℕ → Story → ℕ → Option ℕ
+holder_of line z s seg = least_of (λ u. some_below (λ mm. held line z u s (Cell seg mm)) (seg_len line seg)) (known_trains z s)
 
 -- Possible fronts: the places where the train's head may be, as its controller knows; at the entry its length alone
 unfoldable pub possible_front : ℕ → ℕ → ℕ → Story → Bool

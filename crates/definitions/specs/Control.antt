@@ -1,5 +1,5 @@
 -- Controller: which zone controls a train, what it granted on entry, and the numbers that count.
-use Rattle.std.specs.Prelude.{ℕ, [], ◌∷◌, if◌then◌else◌, Bool, false, ◌&&◌, nat_eq, max, Option, Some}
+use Rattle.std.specs.Prelude.{ℕ, List, ◌++◌, [], ◌∷◌, if◌then◌else◌, Bool, false, ◌&&◌, nat_eq, max, Option, Some}
 use Rattle.std.specs.List.{list_any}
 use Rattle.definitions.specs.declared.message.Msg.{Msg}
 use Rattle.definitions.specs.declared.message.Msg.TheVariants as msg
@@ -21,6 +21,16 @@ controls z t s = ever (grants_entry z t) s
 -- a zone knows a train once it granted its entry
 abbrev pub knows : ℕ → ℕ → Story → Bool
 knows z t s = ever (grants_entry z t) s
+
+-- the train of a request for entry; 0 for any other message
+abbrev pub asker : Option (ℕ × Msg) → ℕ
+asker (Some (from, msg.EntryAsk u time long error speed equipped step)) = u.0
+asker _ = 0
+
+-- the trains that a zone knows, in the order in which it granted their entry
+unfoldable pub known_trains : ℕ → Story → List ℕ
+known_trains z [] = []
+known_trains z (e ∷ s) = if grants_entry z (asker e.took) e then known_trains z s ++ asker e.took ∷ [] else known_trains z s
 
 abbrev pub asked_long : Option (ℕ × Msg) → ℕ
 asked_long (Some (from, msg.EntryAsk u time long error speed equipped step)) = long

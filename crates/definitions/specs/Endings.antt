@@ -7,9 +7,10 @@ use Rattle.track_points.specs.declared.ids.DirSeg.{DirSeg}
 use Rattle.definitions.specs.declared.outcome.Outcome.{Outcome}
 use Rattle.definitions.specs.declared.outcome.Outcome.TheVariants.{Entry, NoEntry, Grant, Deny, Answer}
 use Rattle.definitions.specs.declared.outcome.Refusal.{Refusal}
-use Rattle.definitions.specs.declared.outcome.Refusal.TheVariants.{Known, TooLong}
+use Rattle.definitions.specs.declared.outcome.Refusal.TheVariants.{Known, TooLong, Held}
 use Rattle.definitions.specs.declared.outcome.Obstacle.{Obstacle}
 use Rattle.definitions.specs.declared.outcome.Obstacle.TheVariants.{AskEnds, TrackEnds, NotJoined, PathFull}
+use Rattle.definitions.specs.declared.outcome.Obstacle.TheVariants as stops
 use Rattle.definitions.specs.declared.outcome.Verdict.{Verdict}
 use Rattle.definitions.specs.declared.outcome.Verdict.TheVariants.{Taken}
 use Rattle.definitions.specs.declared.document.Ending.{Ending}
@@ -20,6 +21,9 @@ use Rattle.edge_io.specs.declared.status.Status.TheVariants as status
 -- a space and a number
 unfoldable pub field : ℕ → List ℕ
 field n = 32 ∷ decimal n
+
+abbrev pub end_line : List ℕ
+end_line = codes "\n"
 
 abbrev pub sign : Dir → List ℕ
 sign Up = codes "+"
@@ -32,6 +36,7 @@ step_field st = field st.seg.0 ++ sign st.dir
 abbrev pub refusal_word : Refusal → List ℕ
 refusal_word Known = codes " known\n"
 refusal_word TooLong = codes " toolong\n"
+refusal_word (Held u) = codes " held" ++ (field u.0 ++ end_line)
 
 abbrev pub verdict_word : Verdict → List ℕ
 verdict_word Taken = codes " taken\n"
@@ -40,11 +45,9 @@ verdict_word Taken = codes " taken\n"
 abbrev pub code_of : Obstacle → ℕ
 code_of AskEnds = 1
 code_of TrackEnds = 2
+code_of stops.Held = 3
 code_of NotJoined = 10
 code_of PathFull = 12
-
-abbrev pub end_line : List ℕ
-end_line = codes "\n"
 
 unfoldable pub outcome_text : Outcome → List ℕ
 outcome_text (Entry z t n) = codes "entry" ++ (field z.0 ++ (field t.0 ++ (field n ++ end_line)))
@@ -62,6 +65,7 @@ ending_text (ends.Done n) = codes "done" ++ (field n ++ end_line)
 ending_text (ends.Rule n r) = codes "line" ++ (field n ++ (codes " rule" ++ (field r ++ end_line)))
 ending_text (ends.Premise n p) = codes "premise" ++ (field n ++ (codes " P" ++ (decimal p ++ end_line)))
 ending_text ends.Input = codes "limit input 67108864\n"
+ending_text ends.Trains = codes "limit trains 256\n"
 ending_text (ends.Unbuilt n) = codes "unbuilt" ++ (field n ++ end_line)
 
 abbrev pub status_of : Ending → Status
@@ -70,4 +74,5 @@ status_of (ends.Done n) = status.Done
 status_of (ends.Rule n r) = status.Line
 status_of (ends.Premise n p) = status.Premise
 status_of ends.Input = status.Limit
+status_of ends.Trains = status.Limit
 status_of (ends.Unbuilt n) = status.Unbuilt

@@ -6,16 +6,8 @@ use Rattle.track_points.specs.Points.{step_eq}
 use Rattle.definitions.specs.declared.event.Event.{Event}
 use Rattle.definitions.specs.declared.event.Event.TheVariants.{Train, Entry, Enter, Ask, Take}
 use Rattle.definitions.specs.Track.{Line, ranged, has_zone, has_segment, begins_at_portal}
-use Rattle.definitions.specs.Story.{Story, Entry as Made, ever, sent}
-use Rattle.definitions.specs.World.{is_declared, first_entry, entry_authority, entered}
-
-abbrev pub declares : Event → Bool
-declares (Train t long error speed kind) = true
-declares _ = false
-
--- some train is declared
-abbrev pub any_train : Story → Bool
-any_train s = ever (λ (e : Made). declares e.event) s
+use Rattle.definitions.specs.Story.{Story, sent}
+use Rattle.definitions.specs.World.{trains, is_declared, first_entry, entry_authority, entered}
 
 -- the world, or a zone of the line
 abbrev pub is_actor : Line → ℕ → Bool
@@ -24,13 +16,18 @@ is_actor line a = nat_eq a 0 || has_zone line a
 abbrev pub on_line : Line → DirSeg → Bool
 on_line line st = has_segment line st.seg.0
 
--- Built: the event's fields are in their ranges, what it names is declared, and its form is built: as yet one train
+-- Built: the event's fields are in their ranges, what it names is declared and what it declares is not
 abbrev pub built : Line → Story → Event → Bool
-built line s (Train t long error speed kind) = ranged 1 60000 speed && not (any_train s)
+built line s (Train t long error speed kind) = ranged 1 60000 speed && not (is_declared t.0 s)
 built line s (Entry t step) = is_declared t.0 s && begins_at_portal line step
 built line s (Enter t) = is_declared t.0 s
 built line s (Ask t z steps to) = is_declared t.0 s && (has_zone line z.0 && list_all (on_line line) steps.items)
 built line s (Take to from number) = not (nat_eq to from) && (is_actor line to && is_actor line from)
+
+-- Limit on trains: the event declares a train beyond the 256th
+abbrev pub too_many : Story → Event → Bool
+too_many s (Train t long error speed kind) = nat_le 256 (length (trains s))
+too_many s _ = false
 
 abbrev pub same_portal : DirSeg → Option DirSeg → Bool
 same_portal step None = true
@@ -51,6 +48,6 @@ takes_rightly s _ = true
 abbrev pub premise_of : Story → Event → ℕ
 premise_of s e = if not (enters_rightly s e) then 5 else if not (takes_rightly s e) then 6 else 0
 
--- Admits: the event has a built form and keeps the premises behind these
+-- Admits: the event has a built form, is within the limit on trains, and keeps the premises behind these
 abbrev pub admits : Line → Story → Event → Bool
-admits line s e = built line s e && nat_eq (premise_of s e) 0
+admits line s e = built line s e && (not (too_many s e) && nat_eq (premise_of s e) 0)

@@ -14,7 +14,7 @@ use Rattle.std.specs.List.{list_any}
 use Rattle.definitions.specs.declared.item.Item.TheVariants.{Zone}
 use Rattle.definitions.specs.Track.{Line}
 use Rattle.definitions.specs.Story.{Story}
-use Rattle.definitions.specs.Premises.{built, premise_of}
+use Rattle.definitions.specs.Premises.{built, too_many, premise_of}
 use Rattle.definitions.specs.Steps.{story_of, effects}
 use Rattle.definitions.specs.Endings.{outcomes_text, ending_text}
 
@@ -47,10 +47,11 @@ item_read n items i second rule =
 abbrev pub script_read : ℕ → List Item → ℕ → Stage
 script_read n items rule = if nat_eq rule 0 then Script items [] else Over (ends.Rule n rule)
 
--- an event behind a story: its form is tried first, then its premises
+-- an event behind a story: its form is tried first, then the limit on trains, then its premises
 abbrev pub event_read : ℕ → Line → List Event → Story → Event → After
 event_read n line events s e =
     if not (built line s e) then quiet (Over (ends.Unbuilt n))
+    else if too_many s e then quiet (Over ends.Trains)
     else if nat_eq (premise_of s e) 0 then record { stage = Script line (e ∷ events); lines = (effects line s e).lines }
     else quiet (Over (ends.Premise n (premise_of s e)))
 

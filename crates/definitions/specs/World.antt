@@ -26,6 +26,15 @@ facts_of t s = first_told (λ (e : Made). facts_in t e.event) s
 abbrev pub is_declared : ℕ → Story → Bool
 is_declared t s = is_some (facts_of t s)
 
+abbrev pub with_train : Event → List ℕ → List ℕ
+with_train (Train u long error speed kind) ts = u.0 ∷ ts
+with_train _ ts = ts
+
+-- the trains that are declared, the latest first
+unfoldable pub trains : Story → List ℕ
+trains [] = []
+trains (e ∷ s) = with_train e.event (trains s)
+
 abbrev pub long_or_0 : Option Facts → ℕ
 long_or_0 (Some f) = f.long
 long_or_0 None = 0

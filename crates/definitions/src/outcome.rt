@@ -9,6 +9,8 @@ pub enum Refusal {
     Known,
     /// The train is longer than the portal's segment.
     TooLong,
+    /// A cell of the portal's segment is held for this train, the least of those.
+    Held(TrainId),
 }
 
 /// What stops an extension.
@@ -18,6 +20,8 @@ pub enum Obstacle {
     AskEnds,
     /// The asked track ends.
     TrackEnds,
+    /// A cell is held for another train.
+    Held,
     /// The ask does not continue the way.
     NotJoined,
     /// The path has no room for a further step.

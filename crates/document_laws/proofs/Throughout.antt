@@ -1,7 +1,7 @@
 -- What every stage that is reached keeps, and so safety after each event of every history.
 use Rattle.std.proofs.Common.{◌≡◌, ℕ, ◌+◌, ◌≤◌, List, [], ◌∷◌, ◌++◌, length, take, Bool, true, false, refl, sym, ◌∙◌, ap, append_assoc, append-nil, arith}
 use Rattle.std.proofs.lemmas.List.Sums.{sum_by-append}
-use Rattle.std.specs.Prelude.{nat_eq, nat_lt, cond, count_by, ◌&&◌, ◌||◌}
+use Rattle.std.specs.Prelude.{nat_eq, nat_lt, cond, count_by, ◌&&◌, ◌||◌, not}
 use Rattle.std.specs.List.{list_any}
 use Rattle.definitions.specs.declared.item.Item.{Item}
 use Rattle.definitions.specs.declared.item.Item.TheVariants.{Zone, Segment, Joint, Portal, Buffer}
@@ -13,7 +13,7 @@ use Rattle.definitions.specs.Grammar.{line_of}
 use Rattle.definitions.specs.Track.{Line}
 use Rattle.definitions.specs.Rules.{rule_of, finish_rule, is_any_zone, builds, is_line}
 use Rattle.definitions.specs.Story.{Story}
-use Rattle.definitions.specs.Premises.{built, premise_of, admits}
+use Rattle.definitions.specs.Premises.{built, too_many, premise_of, admits}
 use Rattle.definitions.specs.Steps.{story_of}
 use Rattle.definitions.specs.Safe.{Kept, IsLineOfOneZone}
 use Rattle.definitions.specs.Trace.{Stage, Items, Script, Over, Reading, start, is_over, input_limit, text_read, line_read, stage_read, second_zone, item_read, script_read, event_read}
@@ -26,6 +26,12 @@ by_test false f g = g refl
 pub both : (x y : Bool) → (x && y) ≡ true → (x ≡ true) × (y ≡ true)
 both true y h = (refl, h)
 both false y h = absurd cc
+
+-- the first holds, the second does not, and the third holds
+pub all_three : (x y z : Bool) → (x && (not y && z)) ≡ true → (x ≡ true) × (y ≡ false) × (z ≡ true)
+all_three true false z h = (refl, refl, h)
+all_three true true z h = absurd cc
+all_three false y z h = absurd cc
 
 pub neither : (x y : Bool) → (x || y) ≡ false → (x ≡ false) × (y ≡ false)
 neither true y h = absurd cc
@@ -78,8 +84,8 @@ good_script n items g = by_test (nat_eq (finish_rule items) 0)
     (λ y. rw y (record { valid = is_line_of items g.0 y; one = g.1 }, tt))
     (λ e. rw e tt)
 
-admits_of : (line : Line) (s : Story) (e : Event) → built line s e ≡ true → nat_eq (premise_of s e) 0 ≡ true → admits line s e ≡ true
-admits_of line s e b p = rw (b, p) refl
+admits_of : (line : Line) (s : Story) (e : Event) → built line s e ≡ true → too_many s e ≡ false → nat_eq (premise_of s e) 0 ≡ true → admits line s e ≡ true
+admits_of line s e b m p = rw (b, m, p) refl
 
 kept_more : (line : Line) (events : List Event) (e : Event) → admits line (story_of line events) e ≡ true → Kept line events → Kept line (e ∷ events)
 unfolding Kept
@@ -87,9 +93,11 @@ kept_more line events e a k = (a, k)
 
 good_event : (n : ℕ) (line : Line) (events : List Event) (s : Story) (e : Event) → s ≡ story_of line events → Good (Script line events) → Good (event_read n line events s e).stage
 good_event n line events s e is g = by_test (built line s e)
-    (λ b. by_test (nat_eq (premise_of s e) 0)
-    (λ p. rw (b, p) (g.0, kept_more line events e (ap (λ x. admits line x e) (sym is) ∙ admits_of line s e b p) g.1))
-    (λ q. rw (b, q) tt))
+    (λ b. by_test (too_many s e)
+    (λ m. rw (b, m) tt)
+    (λ m. by_test (nat_eq (premise_of s e) 0)
+    (λ p. rw (b, m, p) (g.0, kept_more line events e (ap (λ x. admits line x e) (sym is) ∙ admits_of line s e b m p) g.1))
+    (λ q. rw (b, m, q) tt)))
     (λ x. rw x tt)
 
 good_stage : (n : ℕ) (s : Stage) (t : TextLine) → Good s → Good (stage_read n s t).stage

@@ -15,12 +15,12 @@ use Rattle.definitions.specs.declared.item.Item.TheVariants.{Zone, Segment, Join
 use Rattle.definitions.specs.Rules.{rule_of, finish_rule, is_any_zone, builds}
 use Rattle.definitions.specs.Track.{Line}
 use Rattle.definitions.specs.Story.{Entry as Made}
-use Rattle.definitions.specs.Premises.{built, premise_of, admits}
+use Rattle.definitions.specs.Premises.{built, too_many, premise_of, admits}
 use Rattle.definitions.specs.Steps.{effects, story_of}
 use Rattle.definitions.specs.Safe.{Kept}
 use Rattle.definitions.specs.Endings.{outcomes_text, ending_text}
 use Rattle.definitions.specs.Trace.{Stage, Items, Script, Over, Reading, After, Step, counted, quiet, start, is_over, input_limit, text_read, line_read, stage_read, second_zone, stage_ends, Given, behind, ended, given, trace}
-use Rattle.document_laws.proofs.Throughout.{by_test, both, zones_append}
+use Rattle.document_laws.proofs.Throughout.{by_test, both, all_three, zones_append}
 use Rattle.document_laws.specs.Whole.{saying, said, IsDocument, IsDocumentWithoutScript, whole, refuses}
 
 -- the bytes of text lines
@@ -78,8 +78,8 @@ passes n (Over ending) h = absurd cc
 event_goes : (n : ℕ) (line : Line) (before : List Event) (e : Event) → admits line (story_of line before) e ≡ true → stage_read n (Script line before) (says.Event e) ≡ record { stage = Script line (e ∷ before); lines = (effects line (story_of line before) e).lines }
 unfolding stage_read
 event_goes n line before e h =
-    let k = both (built line (story_of line before) e) (nat_eq (premise_of (story_of line before) e) 0) h in
-    rw (k.0, k.1) refl
+    let k = all_three (built line (story_of line before) e) (too_many (story_of line before) e) (nat_eq (premise_of (story_of line before) e) 0) h in
+    rw (k.0, k.1, k.2) refl
 
 some_counted : (items : List Item) → count_by is_any_zone items ≡ 0 → list_any is_any_zone items ≡ false
 some_counted items c = by_test (list_any is_any_zone items) (λ y. absurd (none items y c)) (λ n. n)

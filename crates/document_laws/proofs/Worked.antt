@@ -9,7 +9,8 @@ use Rattle.definitions.specs.declared.event.Kind.TheVariants.{Equipped}
 use Rattle.definitions.specs.Lines.{text_lines, text_of}
 use Rattle.definitions.specs.Grammar.{line_of, form_of, item_form, event_form, zone_line, segment_line, joint_line, portal_line, buffer_line, script_line, train_line, word_at, number_at, digits_at, field_at, ranged_at}
 use Rattle.definitions.specs.Rules.{rule_of, finish_rule, builds}
-use Rattle.definitions.specs.Story.{ever}
+use Rattle.definitions.specs.Story.{first_told}
+use Rattle.definitions.specs.World.{trains}
 use Rattle.definitions.specs.Steps.{story_of}
 use Rattle.definitions.specs.Safe.{Kept}
 use Rattle.definitions.specs.Trace.{trace}
@@ -33,7 +34,7 @@ unfolding said text_lines text_of line_of form_of item_form zone_line word_at nu
 is_alone = record { says_ = refl; builds = refl; one = omega arith; finished = refl; within = omega arith }
 
 is_scripted : IsDocument scripted items events
-unfolding said text_lines text_of line_of form_of item_form event_form zone_line segment_line joint_line portal_line buffer_line script_line train_line word_at number_at digits_at field_at ranged_at rule_of finish_rule builds Kept story_of ever
+unfolding said text_lines text_of line_of form_of item_form event_form zone_line segment_line joint_line portal_line buffer_line script_line train_line word_at number_at digits_at field_at ranged_at rule_of finish_rule builds Kept story_of first_told trains
 is_scripted = record { says_ = refl; builds = refl; one = omega arith; finished = refl; kept = (refl, tt); within = omega arith }
 
 alone_gives : trace alone ≡ whole items []

@@ -60,5 +60,6 @@ whole items events = record {
 abbrev pub refuses : Ending → Bool
 refuses (ends.Rule n r) = true
 refuses (ends.Premise n p) = true
+refuses ends.Trains = true
 refuses (ends.Unbuilt n) = true
 refuses _ = false

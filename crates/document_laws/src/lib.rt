@@ -19,7 +19,8 @@ pub fn document_gives_nothing()
     ensures { (bytes : List ℕ) (items : List Item) → IsDocumentWithoutScript bytes items → trace bytes ≡ whole items [] }
 {}
 
-/// No text line of a document is refused: it breaks no rule and no premise, and its form is built.
+/// No text line of a document is refused: it breaks no rule and no premise, its form is built, and it declares no train
+/// too many.
 #[tactic(auto, using(crate::proofs::Whole::never_premise))]
 pub fn never_premise()
     ensures { (bytes : List ℕ) (items : List Item) (events : List Event) → IsDocument bytes items events → refuses (trace bytes).ending ≡ false }

@@ -5,12 +5,12 @@ ghost use Rattle.edge_io.specs.Writing.{Wrote};
 ghost use Rattle.definitions.specs.Endings.{step_field, outcome_text, outcomes_text, ending_text};
 ghost use Rattle.document_text.specs.Parts.{part_text, parts_text};
 
-use Part::{Number, Premise, Rule, Step};
+use Part::{Held, Number, Premise, Rule, Step};
 use definitions::document::Ending;
 use definitions::outcome::{Obstacle, Outcome, Refusal, Verdict};
 use edge_io::stream::Sink;
 use edge_io::writing::{WriteFault, write_text};
-use track_points::{Dir, DirSeg};
+use track_points::{Dir, DirSeg, TrainId, ZoneId};
 
 /// A part of a line, between its first word and what ends it.
 #[derive(Clone, Copy)]
@@ -23,6 +23,8 @@ enum Part {
     Rule(u8),
     /// A premise.
     Premise(u8),
+    /// The word `held` and a train.
+    Held(u64),
 }
 
 /// A number.
@@ -73,6 +75,7 @@ fn write_part<K: Sink>(part: Part, sink: &mut K) -> Result<(), WriteFault>
         Step(step) => write_step(step, sink),
         Rule(rule) => write_named(b" rule ", rule as u64, sink),
         Premise(premise) => write_named(b" P", premise as u64, sink),
+        Held(train) => write_named(b" held ", train, sink),
     }
 }
 
@@ -104,16 +107,6 @@ fn write_line<K: Sink>(
     }
 }
 
-/// The word of a refusal, which ends its line.
-fn refusal_word(refusal: Refusal) -> &'static [u8]
-    ensures { result.now ≡ Rattle.definitions.specs.Endings.refusal_word refusal }
-{
-    match refusal {
-        Refusal::Known => b" known\n",
-        Refusal::TooLong => b" toolong\n",
-    }
-}
-
 /// The word of a verdict, which ends its line.
 fn verdict_word(verdict: Verdict) -> &'static [u8]
     ensures { result.now ≡ Rattle.definitions.specs.Endings.verdict_word verdict }
@@ -130,8 +123,30 @@ fn code_of(obstacle: Obstacle) -> u64
     match obstacle {
         Obstacle::AskEnds => 1,
         Obstacle::TrackEnds => 2,
+        Obstacle::Held => 3,
         Obstacle::NotJoined => 10,
         Obstacle::PathFull => 12,
+    }
+}
+
+/// A refused entry.
+#[tactic(auto, unfolding(definitions::specs::Endings::outcome_text))]
+fn write_refused<K: Sink>(
+    zone: ZoneId,
+    train: TrainId,
+    refusal: Refusal,
+    sink: &mut K,
+) -> Result<(), WriteFault>
+    ensures { Wrote K.written K.faults sink.old sink.new (outcome_text (Outcome.NoEntry zone train refusal)) result }
+{
+    let z = Number(zone.0 as u64);
+    let t = Number(train.0 as u64);
+    match refusal {
+        Refusal::Known => write_line(b"noentry", &[z, t], b" known\n", sink),
+        Refusal::TooLong => write_line(b"noentry", &[z, t], b" toolong\n", sink),
+        Refusal::Held(other) => {
+            write_line(b"noentry", &[z, t, Held(other.0 as u64)], b"\n", sink)
+        }
     }
 }
 
@@ -145,10 +160,7 @@ pub fn write_outcome<K: Sink>(outcome: &Outcome, sink: &mut K) -> Result<(), Wri
             let parts = [Number(z.0 as u64), Number(t.0 as u64), Number(n as u64)];
             write_line(b"entry", &parts, b"\n", sink)
         }
-        Outcome::NoEntry(z, t, refusal) => {
-            let parts = [Number(z.0 as u64), Number(t.0 as u64)];
-            write_line(b"noentry", &parts, refusal_word(refusal), sink)
-        }
+        Outcome::NoEntry(z, t, refusal) => write_refused(z, t, refusal, sink),
         Outcome::Grant(z, t, n, step, to, obstacle) => {
             let parts = [
                 Number(z.0 as u64),
@@ -204,6 +216,7 @@ pub fn write_ending<K: Sink>(ending: &Ending, sink: &mut K) -> Result<(), WriteF
             sink,
         ),
         Ending::Input => write_text(sink, b"limit input 67108864\n"),
+        Ending::Trains => write_text(sink, b"limit trains 256\n"),
         Ending::Unbuilt(n) => write_line(b"unbuilt", &[Number(n)], b"\n", sink),
     }
 }

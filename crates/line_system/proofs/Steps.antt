@@ -32,6 +32,6 @@ zone_effect line p zero from m k h = absurd (omega arith)
 zone_effect line p (suc z) from m k h = ap (λ (n : ℕ). zone_takes_plain line n p.ways m) h
 
 pub zone_next : (line : Line) (p : Plain) (to from : ℕ) (m : Msg) → 0 < to → to ≡ p.zone
-    → taken_next line p to from (Some m) ≡ by_zone p (ways_after line p.ways m) (zone_takes_plain line p.zone p.ways m)
+    → taken_next line p to from (Some m) ≡ by_zone p (ways_after line p.zone p.ways m) (zone_takes_plain line p.zone p.ways m)
 zone_next line p zero from m k h = absurd (omega arith)
-zone_next line p (suc z) from m k h = ap (λ (n : ℕ). by_zone p (ways_after line p.ways m) (zone_takes_plain line n p.ways m)) h
+zone_next line p (suc z) from m k h = ap (λ (n : ℕ). by_zone p (ways_after line n p.ways m) (zone_takes_plain line n p.ways m)) h

@@ -8,7 +8,7 @@ ghost use Rattle.definitions.specs.Story.{to_actor};
 ghost use Rattle.definitions.specs.Steps.{Effect};
 ghost use Rattle.definitions.specs.declared.message.Msg.TheVariants as msg;
 ghost use Rattle.plain_state.specs.Plain.{Plain, given, listed, link, plain_start, by_world, by_zone, taken_effect, taken_next, world_takes_plain, trains_after, zone_takes_plain, ways_after, plain_effect, plain_next, find_way, last_found, find_train, entry_found, authority_found, on_found};
-ghost use Rattle.plain_state.specs.Admits.{plain_built, plain_enters, plain_takes, plain_premise};
+ghost use Rattle.plain_state.specs.Admits.{plain_built, plain_too_many, plain_enters, plain_takes, plain_premise};
 ghost use Rattle.zone_state.specs.Zone.{ways_fit};
 ghost use Rattle.line_system.specs.State.{plain, SpeedFits};
 
@@ -187,12 +187,12 @@ impl State {
         self.world.find(train).is_some()
     }
 
-    /// Whether an event names what is declared, in a form that is built.
+    /// Whether an event names what is declared, and declares what is not, in a form that is built.
     pub fn is_built(&self, line: &Line, event: &Event) -> bool
         ensures { result ≡ plain_built line.now (plain self.now) event.now }
     {
         match event {
-            Event::Train(_, _, _, speed, _) => is_speed(*speed) && self.world.is_empty(),
+            Event::Train(train, _, _, speed, _) => is_speed(*speed) && !self.is_declared(*train),
             Event::Entry(train, step) => self.is_declared(*train) && line.begins_at_portal(*step),
             Event::Enter(train) => self.is_declared(*train),
             Event::Ask(train, zone, steps, _) => {
@@ -200,6 +200,16 @@ impl State {
                     && (line.has_zone(*zone) && are_on_line(line, steps.as_slice()))
             }
             Event::Take(to, from, _) => is_link(line, *to, *from),
+        }
+    }
+
+    /// Whether an event declares a train beyond the 256th.
+    pub fn is_too_many(&self, event: &Event) -> bool
+        ensures { result ≡ plain_too_many (plain self.now) event.now }
+    {
+        match event {
+            Event::Train(_, _, _, _, _) => 256 <= self.world.count(),
+            _ => false,
         }
     }
 
@@ -284,7 +294,7 @@ impl State {
         requires room { (t : ℕ) → last_found (find_way t (plain self.old).ways) < 2 ^ 32 - 1 }
         requires fits { ways_fit line.now (plain self.old).ways ≡ true }
         ensures lines { IfOk result (λ outcome. listed outcome ≡ (zone_takes_plain line.now (plain self.old).zone (plain self.old).ways message.now).lines) }
-        ensures next { OnOk result (plain self.new ≡ by_zone (plain self.old) (ways_after line.now (plain self.old).ways message.now) (zone_takes_plain line.now (plain self.old).zone (plain self.old).ways message.now)) }
+        ensures next { OnOk result (plain self.new ≡ by_zone (plain self.old) (ways_after line.now (plain self.old).zone (plain self.old).ways message.now) (zone_takes_plain line.now (plain self.old).zone (plain self.old).ways message.now)) }
         ensures fits { OnOk result (ways_fit line.now (plain self.new).ways ≡ true) }
     {
         let gives = self.zone.take(line, message)?;

@@ -1,7 +1,7 @@
 //! The system of a line: the history of its script, and what that leaves.
-ghost use Rattle.std.specs.Prelude.{◌≡◌, ◌<◌, ◌≤◌, ◌-◌, ◌^◌, [], true, count_by, length, IfOk};
+ghost use Rattle.std.specs.Prelude.{◌≡◌, ◌<◌, ◌≤◌, ◌-◌, ◌^◌, [], true, false, count_by, length, IfOk};
 ghost use Rattle.definitions.specs.Rules.{is_line, is_any_zone};
-ghost use Rattle.definitions.specs.Premises.{built, premise_of};
+ghost use Rattle.definitions.specs.Premises.{built, too_many, premise_of};
 ghost use Rattle.definitions.specs.Steps.{story_of};
 ghost use Rattle.plain_state.specs.Plain.{zone_id};
 ghost use Rattle.line_system.specs.State.{SpeedFits};
@@ -53,8 +53,10 @@ impl Model for System {
 /// What the system answers to an event.
 #[derive(Drop)]
 pub enum Answer {
-    /// It names what is not declared, or its form is not built. The script ends.
+    /// It names what is not declared or declares what is, or its form is not built. The script ends.
     Unbuilt,
+    /// It declares a train beyond the 256th. The script ends.
+    TooMany,
     /// It breaks the premise of this number, the least of those that it breaks. The script ends.
     Premise(u8),
     /// It goes. The system has it in its history, and this is its outcome line, if it has one.
@@ -84,12 +86,20 @@ impl System {
         self.events.len() as u64
     }
 
-    /// Whether an event names what is declared, in a form that is built.
+    /// Whether an event names what is declared, and declares what is not, in a form that is built.
     #[tactic(auto, using(crate::proofs::Story::built_plain))]
     fn is_built(&self, event: &Event) -> bool
         ensures { result ≡ built self.now.line (story_of self.now.line self.now.events) event.now }
     {
         self.state.is_built(&self.line, event)
+    }
+
+    /// Whether an event declares a train beyond the 256th.
+    #[tactic(auto, using(crate::proofs::Story::too_many_plain))]
+    fn is_too_many(&self, event: &Event) -> bool
+        ensures { result ≡ too_many (story_of self.now.line self.now.events) event.now }
+    {
+        self.state.is_too_many(event)
     }
 
     /// The number of the least premise that an event breaks, 0 for none.
@@ -106,6 +116,7 @@ impl System {
         requires few { length self.events < 2 ^ 32 - 2 }
         requires speed { SpeedFits event }
         requires built { built self.line (story_of self.line self.events) event ≡ true }
+        requires within { too_many (story_of self.line self.events) event ≡ false }
         requires kept { premise_of (story_of self.line self.events) event ≡ 0 }
         ensures { IfOk result (λ a. Answers self event a) }
     {
@@ -134,6 +145,9 @@ impl System {
     {
         if !self.is_built(&event) {
             return Ok(Answer::Unbuilt);
+        }
+        if self.is_too_many(&event) {
+            return Ok(Answer::TooMany);
         }
         let premise = self.premise(&event);
         if premise != 0 {

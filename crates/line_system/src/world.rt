@@ -4,7 +4,6 @@ ghost use Rattle.std.specs.List.{list_all, position};
 ghost use Rattle.definitions.specs.Story.{or_else};
 ghost use Rattle.definitions.specs.Steps.{Effect, nothing, answers, entering, requesting, taking_auth};
 ghost use Rattle.plain_state.specs.declared.WorldTrain.{WorldTrain};
-ghost use Rattle.plain_state.specs.Admits.{no_trains};
 ghost use Rattle.plain_state.specs.Plain.{given, find_train, change_train, facts_found, authority_found, on_found, number_found, new_train, asked_at_portal, come_on, sender_if_first, took_auth, world_takes_plain, trains_after};
 ghost use Rattle.line_system.specs.World.{speed_fits, put, is_train};
 
@@ -197,14 +196,11 @@ impl World {
         }
     }
 
-    /// Whether no train is declared.
-    pub fn is_empty(&self) -> bool
-        ensures { result ≡ no_trains self.now }
+    /// How many trains are declared.
+    pub fn count(&self) -> usize
+        ensures { result ≡ length self.now }
     {
-        match self.trains.as_slice() {
-            [] => true,
-            [..] => false,
-        }
+        self.trains.len()
     }
 
     /// The first train of this id.

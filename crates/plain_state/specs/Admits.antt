@@ -1,23 +1,22 @@
 -- Fields and premises over the plain state.
-use Rattle.std.specs.Prelude.{ℕ, List, [], ◌∷◌, length, if◌then◌else◌, Bool, true, false, ◌&&◌, not, nat_eq, nat_le, nat_lt, is_some}
+use Rattle.std.specs.Prelude.{ℕ, length, if◌then◌else◌, Bool, true, false, ◌&&◌, not, nat_eq, nat_le, nat_lt, is_some}
 use Rattle.std.specs.List.{list_all}
 use Rattle.definitions.specs.declared.event.Event.{Event}
 use Rattle.definitions.specs.declared.event.Event.TheVariants.{Train, Entry, Enter, Ask, Take}
 use Rattle.definitions.specs.Track.{Line, ranged, has_zone, begins_at_portal}
 use Rattle.definitions.specs.Premises.{on_line, is_actor, same_portal}
-use Rattle.plain_state.specs.declared.WorldTrain.{WorldTrain}
 use Rattle.plain_state.specs.Plain.{Plain, find_train, entry_found, authority_found, on_found, link}
 
-abbrev pub no_trains : List WorldTrain → Bool
-no_trains [] = true
-no_trains (x ∷ xs) = false
-
 abbrev pub plain_built : Line → Plain → Event → Bool
-plain_built line p (Train t long error speed kind) = ranged 1 60000 speed && no_trains p.trains
+plain_built line p (Train t long error speed kind) = ranged 1 60000 speed && not (is_some (find_train t.0 p.trains))
 plain_built line p (Entry t step) = is_some (find_train t.0 p.trains) && begins_at_portal line step
 plain_built line p (Enter t) = is_some (find_train t.0 p.trains)
 plain_built line p (Ask t z steps to) = is_some (find_train t.0 p.trains) && (has_zone line z.0 && list_all (on_line line) steps.items)
 plain_built line p (Take to from number) = not (nat_eq to from) && (is_actor line to && is_actor line from)
+
+abbrev pub plain_too_many : Plain → Event → Bool
+plain_too_many p (Train t long error speed kind) = nat_le 256 (length p.trains)
+plain_too_many p _ = false
 
 abbrev pub plain_enters : Plain → Event → Bool
 plain_enters p (Entry t step) = same_portal step (entry_found (find_train t.0 p.trains))

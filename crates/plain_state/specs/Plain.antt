@@ -1,9 +1,9 @@
 -- The plain state of the world, the zone and the links between them, and what each event makes of it.
-use Rattle.std.specs.Prelude.{ℕ, zero, suc, ◌+◌, ◌-◌, List, [], ◌∷◌, ◌++◌, if◌then◌else◌, Bool, true, false, nat_eq, nat_lt, max, Option, Some, None, is_some, slice_get}
+use Rattle.std.specs.Prelude.{ℕ, zero, suc, ◌+◌, ◌-◌, List, [], ◌∷◌, ◌++◌, if◌then◌else◌, Bool, true, false, ◌&&◌, not, nat_eq, nat_lt, max, Option, Some, None, is_some, slice_get}
 use Rattle.track_points.specs.declared.ids.DirSeg.{DirSeg}
 use Rattle.track_points.specs.declared.ids.TrainId.{TrainId}
 use Rattle.track_points.specs.declared.path.Path.{Path}
-use Rattle.track_points.specs.Points.{Lengths, end_place}
+use Rattle.track_points.specs.Points.{Lengths, Point, Cell, some_below, end_place, path_has}
 use Rattle.plain_state.specs.declared.WorldTrain.{WorldTrain}
 use Rattle.plain_state.specs.declared.ZoneTrain.{ZoneTrain}
 use Rattle.plain_state.specs.declared.Given.{Given}
@@ -13,9 +13,11 @@ use Rattle.definitions.specs.declared.event.Event.{Event}
 use Rattle.definitions.specs.declared.event.Event.TheVariants.{Train, Entry, Enter, Ask, Take}
 use Rattle.definitions.specs.declared.message.Msg.{Msg}
 use Rattle.definitions.specs.declared.message.Msg.TheVariants as msg
-use Rattle.definitions.specs.Track.{Line, seg_len, zone_of}
+use Rattle.definitions.specs.Track.{Line, owner, seg_len, zone_of}
 use Rattle.definitions.specs.Story.{or_else, to_actor}
 use Rattle.definitions.specs.World.{Facts}
+use Rattle.definitions.specs.Authority.{less_of}
+use Rattle.std.specs.List.{list_any}
 use Rattle.definitions.specs.Limit.{Reach, reach_from, asked_way}
 use Rattle.definitions.specs.Steps.{Effect, nothing, entering, requesting, taking_auth, entry_path, zone_entry, zone_ask, path_to}
 
@@ -128,11 +130,15 @@ trains_after trains from _ = trains
 abbrev pub entered_way : TrainId → ℕ → DirSeg → ZoneTrain
 entered_way t room step = record { id = t; path = entry_path step room; last = 1; answered = 0 }
 
-abbrev pub ways_entered : Bool → ℕ → TrainId → ℕ → DirSeg → List ZoneTrain → List ZoneTrain
-ways_entered known room t long step ways =
+abbrev pub entered_or : Option ℕ → ZoneTrain → List ZoneTrain → List ZoneTrain
+entered_or (Some u) x ways = ways
+entered_or None x ways = ways ++ x ∷ []
+
+abbrev pub ways_entered : Bool → ℕ → TrainId → ℕ → DirSeg → Option ℕ → List ZoneTrain → List ZoneTrain
+ways_entered known room t long step holder ways =
     if known then ways
     else if nat_lt room long then ways
-    else ways ++ entered_way t room step ∷ []
+    else entered_or holder (entered_way t room step) ways
 
 -- a way lengthened up to a distance from its end
 abbrev pub lengthened : Lengths → List DirSeg → ℕ → ZoneTrain → ZoneTrain
@@ -148,24 +154,44 @@ ways_asked len t asked reach ways =
 abbrev pub answered_by : ℕ → ZoneTrain → ZoneTrain
 answered_by number x = record x { answered = max x.answered number }
 
-abbrev pub reach_plain : Line → Option ZoneTrain → List DirSeg → ℕ → Reach
-reach_plain line found asked to = reach_from line (ready_found found) (path_found found) asked to
+-- a way of another train than this one has the point
+abbrev pub held_else_plain : Lengths → List ZoneTrain → ℕ → Point → Bool
+held_else_plain len ways t point = list_any (λ x. not (nat_eq x.id.0 t) && path_has len x.path point) ways
+
+abbrev pub barring_plain : Line → ℕ → List ZoneTrain → ℕ → Point → Bool
+barring_plain line z ways t point = nat_eq (owner line point) z && held_else_plain (seg_len line) ways t point
+
+-- a way has a cell of the segment
+abbrev pub way_on : Line → ℕ → ℕ → ZoneTrain → Bool
+way_on line z seg x = some_below (λ mm. nat_eq (owner line (Cell seg mm)) z && path_has (seg_len line) x.path (Cell seg mm)) (seg_len line seg)
+
+-- the least train whose way has a cell of the segment
+unfoldable pub least_way : (ZoneTrain → Bool) → List ZoneTrain → Option ℕ
+least_way test [] = None
+least_way test (x ∷ ways) = if test x then Some (less_of x.id.0 (least_way test ways)) else least_way test ways
+
+abbrev pub holder_plain : Line → ℕ → List ZoneTrain → ℕ → Option ℕ
+holder_plain line z ways seg = least_way (way_on line z seg) ways
+
+abbrev pub reach_plain : Line → ℕ → List ZoneTrain → ℕ → List DirSeg → ℕ → Reach
+reach_plain line z ways t asked to =
+    reach_from line (ready_found (find_way t ways)) (path_found (find_way t ways)) asked to (barring_plain line z ways t)
 
 abbrev pub zone_takes_plain : Line → ℕ → List ZoneTrain → Msg → Effect
 zone_takes_plain line z ways (msg.EntryAsk t time long error speed equipped step) =
-    zone_entry z (is_some (find_way t.0 ways)) (seg_len line step.seg.0) t long step
+    zone_entry z (is_some (find_way t.0 ways)) (seg_len line step.seg.0) t long step (holder_plain line z ways step.seg.0)
 zone_takes_plain line z ways (msg.Ask t time steps to) =
-    zone_ask (seg_len line) z t (last_found (find_way t.0 ways)) (path_found (find_way t.0 ways)) steps.items (reach_plain line (find_way t.0 ways) steps.items to)
+    zone_ask (seg_len line) z t (last_found (find_way t.0 ways)) (path_found (find_way t.0 ways)) steps.items (reach_plain line z ways t.0 steps.items to)
 zone_takes_plain line z ways (msg.Answer t time number taken) = nothing
 zone_takes_plain line z ways (msg.Auth t number mark path) = nothing
 
-abbrev pub ways_after : Line → List ZoneTrain → Msg → List ZoneTrain
-ways_after line ways (msg.EntryAsk t time long error speed equipped step) =
-    ways_entered (is_some (find_way t.0 ways)) (seg_len line step.seg.0) t long step ways
-ways_after line ways (msg.Ask t time steps to) =
-    ways_asked (seg_len line) t.0 steps.items (reach_plain line (find_way t.0 ways) steps.items to) ways
-ways_after line ways (msg.Answer t time number taken) = change_way t.0 (answered_by number) ways
-ways_after line ways (msg.Auth t number mark path) = ways
+abbrev pub ways_after : Line → ℕ → List ZoneTrain → Msg → List ZoneTrain
+ways_after line z ways (msg.EntryAsk t time long error speed equipped step) =
+    ways_entered (is_some (find_way t.0 ways)) (seg_len line step.seg.0) t long step (holder_plain line z ways step.seg.0) ways
+ways_after line z ways (msg.Ask t time steps to) =
+    ways_asked (seg_len line) t.0 steps.items (reach_plain line z ways t.0 steps.items to) ways
+ways_after line z ways (msg.Answer t time number taken) = change_way t.0 (answered_by number) ways
+ways_after line z ways (msg.Auth t number mark path) = ways
 
 -- The links, and the whole step.
 
@@ -190,7 +216,7 @@ taken_effect line p (suc z) from (Some m) = zone_takes_plain line (suc z) p.ways
 abbrev pub taken_next : Line → Plain → ℕ → ℕ → Option Msg → Plain
 taken_next line p to from None = p
 taken_next line p zero from (Some m) = by_world p (trains_after p.trains from m) (world_takes_plain p.trains from m)
-taken_next line p (suc z) from (Some m) = by_zone p (ways_after line p.ways m) (zone_takes_plain line (suc z) p.ways m)
+taken_next line p (suc z) from (Some m) = by_zone p (ways_after line (suc z) p.ways m) (zone_takes_plain line (suc z) p.ways m)
 
 abbrev pub plain_effect : Line → Plain → Event → Effect
 plain_effect line p (Train t long error speed kind) = nothing

@@ -14,7 +14,7 @@ use Rattle.definitions.specs.Rules.{rule_of, finish_rule}
 use Rattle.definitions.specs.Track.{Line}
 use Rattle.definitions.specs.Story.{Story}
 use Rattle.definitions.specs.Steps.{story_of}
-use Rattle.definitions.specs.Premises.{built, premise_of}
+use Rattle.definitions.specs.Premises.{built, too_many, premise_of}
 use Rattle.definitions.specs.Endings.{status_of}
 use Rattle.definitions.specs.Trace.{Stage, Items, Script, Over, is_over, stage_read, stage_ends, second_zone, item_read, event_read, Given}
 use Rattle.byte_feed.specs.Feed.{Feed, fed_gives}
@@ -27,7 +27,9 @@ use Rattle.run_engine.specs.Running.{AtEnd, status_of_cut}
 
 built_never : (n : ℕ) (line : Line) (events : List Event) (s : Story) (e : Event) → done_early (event_read n line events s e).stage ≡ false
 built_never n line events s e = by_test (built line s e)
-    (λ y. by_test (nat_eq (premise_of s e) 0) (λ p. rw (y, p) refl) (λ p. rw (y, p) refl))
+    (λ y. by_test (too_many s e)
+    (λ m. rw (y, m) refl)
+    (λ m. by_test (nat_eq (premise_of s e) 0) (λ p. rw (y, m, p) refl) (λ p. rw (y, m, p) refl)))
     (λ x. rw x refl)
 
 item_never : (n : ℕ) (items : List Item) (i : Item) (second : Bool) (rule : ℕ) → done_early (item_read n items i second rule) ≡ false
@@ -57,6 +59,7 @@ over_ends n (Over (ends.Done m)) h k e = cc
 over_ends n (Over (ends.Rule m r)) h k e = cc
 over_ends n (Over (ends.Premise m p)) h k e = cc
 over_ends n (Over ends.Input) h k e = cc
+over_ends n (Over ends.Trains) h k e = cc
 over_ends n (Over (ends.Unbuilt m)) h k e = cc
 
 -- what ends as done is not over

@@ -112,6 +112,7 @@ gave_whole (ends.Done n) all before now e w = (ap status_of e, w)
 gave_whole (ends.Rule n r) all before now e w = (ap status_of e, w)
 gave_whole (ends.Premise n p) all before now e w = (ap status_of e, w)
 gave_whole ends.Input all before now e w = (ap status_of e, w)
+gave_whole ends.Trains all before now e w = (ap status_of e, w)
 gave_whole (ends.Unbuilt n) all before now e w = (ap status_of e, w)
 
 pub gave_front : (cut : Cut) (all : Given) (before now : Option (List ℕ)) → WroteFront before now all.text → Gave (status_of_cut cut) all before now
@@ -150,6 +151,7 @@ end_causes (ends.Done n) r0 r w0 w h k = (h, k)
 end_causes (ends.Rule n x) r0 r w0 w h k = (h, k)
 end_causes (ends.Premise n x) r0 r w0 w h k = (h, k)
 end_causes ends.Input r0 r w0 w h k = (h, k)
+end_causes ends.Trains r0 r w0 w h k = (h, k)
 end_causes (ends.Unbuilt n) r0 r w0 w h k = (h, k)
 
 -- nothing was begun

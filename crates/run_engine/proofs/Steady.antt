@@ -12,7 +12,7 @@ use Rattle.definitions.specs.Track.{Line}
 use Rattle.definitions.specs.Story.{Story}
 use Rattle.definitions.specs.Steps.{story_of}
 use Rattle.definitions.specs.Rules.{is_any_zone, rule_of, finish_rule}
-use Rattle.definitions.specs.Premises.{built, premise_of}
+use Rattle.definitions.specs.Premises.{built, too_many, premise_of}
 use Rattle.definitions.specs.Trace.{Stage, Items, Script, Over, stage_read, item_read, script_read, event_read, second_zone}
 use Rattle.byte_feed.proofs.Lines.{by_test}
 use Rattle.run_engine.specs.Shown.{Steady}
@@ -52,7 +52,9 @@ script_steady n m items rule = by_test (nat_eq rule 0)
 
 event_steady : (n m : ℕ) (line : Line) (events : List Event) (s : Story) (e : Event) → length events ≤ m → Steady (m + 1) (event_read n line events s e).stage
 event_steady n m line events s e h = by_test (built line s e)
-    (λ y. by_test (nat_eq (premise_of s e) 0) (λ p. rw (y, p) (omega (arith, h))) (λ p. rw (y, p) tt))
+    (λ y. by_test (too_many s e)
+    (λ m. rw (y, m) tt)
+    (λ m. by_test (nat_eq (premise_of s e) 0) (λ p. rw (y, m, p) (omega (arith, h))) (λ p. rw (y, m, p) tt)))
     (λ x. rw x tt)
 
 pub steady_read : (n m : ℕ) (s : Stage) (t : TextLine) → Steady m s → Steady (m + 1) (stage_read n s t).stage

@@ -96,6 +96,7 @@ fn read_event(n: u64, system: System, event: Event) -> Result<After, AllocError>
 {
     match system.take(event)? {
         Answer::Unbuilt => Ok(quiet(Stage::Over(Ending::Unbuilt(n)))),
+        Answer::TooMany => Ok(quiet(Stage::Over(Ending::Trains))),
         Answer::Premise(premise) => Ok(quiet(Stage::Over(Ending::Premise(n, premise)))),
         Answer::Goes(next, line) => Ok(After {
             stage: Stage::Script(next),
@@ -167,6 +168,7 @@ pub fn status(ending: &Ending) -> Status
         Ending::Rule(_, _) => Status::Line,
         Ending::Premise(_, _) => Status::Premise,
         Ending::Input => Status::Limit,
+        Ending::Trains => Status::Limit,
         Ending::Unbuilt(_) => Status::Unbuilt,
     }
 }

@@ -9,19 +9,19 @@ use Rattle.definitions.specs.declared.event.Event.TheVariants.{Train, Entry, Ent
 use Rattle.definitions.specs.declared.message.Msg.{Msg}
 use Rattle.definitions.specs.declared.message.Msg.TheVariants as msg
 use Rattle.definitions.specs.Track.{Line, ranged, seg_len, zone_of, has_zone, begins_at_portal}
-use Rattle.definitions.specs.Premises.{on_line, is_actor, same_portal, built, enters_rightly, takes_rightly, premise_of}
+use Rattle.definitions.specs.Premises.{on_line, is_actor, same_portal, built, too_many, enters_rightly, takes_rightly, premise_of}
 use Rattle.definitions.specs.Story.{Entry as Made, Story, sent}
 use Rattle.definitions.specs.World.{Facts, entered, HeldPath, entry_authority, last_number}
-use Rattle.definitions.specs.Authority.{way}
+use Rattle.definitions.specs.Authority.{way, holder_of}
 use Rattle.definitions.specs.Limit.{Reach, limit}
 use Rattle.definitions.specs.Steps.{Effect, entering, requesting, sender_of, taking_auth, world_takes, zone_entry, zone_ask, zone_takes, takes, taking, message, effects}
 use Rattle.definitions.specs.Safe.{IsLineOfOneZone}
 use Rattle.plain_state.specs.Plain.{Plain, zone_id, find_train, find_way, authority_found, on_found, path_found, last_found, world_takes_plain, zone_takes_plain, link, taken_effect, plain_effect}
-use Rattle.plain_state.specs.Admits.{plain_built, plain_enters, plain_takes, plain_premise}
+use Rattle.plain_state.specs.Admits.{plain_built, plain_too_many, plain_enters, plain_takes, plain_premise}
 use Rattle.story_laws.proofs.Lines.{both}
 use Rattle.story_laws.proofs.Sound.{Sound}
 use Rattle.story_laws.proofs.Every.{actor_zone}
-use Rattle.story_laws.proofs.Values.{Linked, facts_is, declared_is, entry_is, authority_is, on_is, number_is, path_is, last_is, known_is, reach_is, link_is}
+use Rattle.story_laws.proofs.Values.{Linked, facts_is, declared_is, entry_is, authority_is, on_is, number_is, path_is, last_is, known_is, holder_is, reach_is, link_is}
 
 abbrev pub effect_of : Made → Effect
 effect_of e = record { issued = e.issued; lines = e.lines }
@@ -36,11 +36,18 @@ sender_some (Some a) = refl
 
 module _ (line : Line) (s : Story) (p : Plain) (l : IsLineOfOneZone line) (k : Linked line s p) (sound : (t : ℕ) → Sound line t s) where
   pub built_now : (e : Event) → built line s e ≡ plain_built line p e
-  built_now (Train u long error speed kind) = ap (λ (b : Bool). ranged 1 60000 speed && b) (sym k.none)
+  built_now (Train u long error speed kind) = ap (λ (b : Bool). ranged 1 60000 speed && not b) (sym (declared_is line s p l k sound u.0))
   built_now (Entry u step) = ap (λ (b : Bool). b && begins_at_portal line step) (sym (declared_is line s p l k sound u.0))
   built_now (Enter u) = sym (declared_is line s p l k sound u.0)
   built_now (Ask u z steps to) = ap (λ (b : Bool). b && (has_zone line z.0 && list_all (on_line line) steps.items)) (sym (declared_is line s p l k sound u.0))
   built_now (Take to from number) = refl
+
+  pub too_many_now : (e : Event) → too_many s e ≡ plain_too_many p e
+  too_many_now (Train u long error speed kind) = ap (λ (n : ℕ). nat_le 256 n) (sym k.count)
+  too_many_now (Entry u step) = refl
+  too_many_now (Enter u) = refl
+  too_many_now (Ask u z steps to) = refl
+  too_many_now (Take to from number) = refl
 
   enters_now : (e : Event) → enters_rightly s e ≡ plain_enters p e
   enters_now (Train u long error speed kind) = refl
@@ -79,7 +86,8 @@ module _ (line : Line) (s : Story) (p : Plain) (l : IsLineOfOneZone line) (k : L
 
   zone_takes_now : (m : Msg) → zone_takes line (zone_id line) s m ≡ zone_takes_plain line (zone_id line) p.ways m
   zone_takes_now (msg.EntryAsk u time long error speed equipped step) =
-      ap (λ (b : Bool). zone_entry (zone_id line) b (seg_len line step.seg.0) u long step) (sym (known_is line s p l k sound u.0))
+      ap (λ (b : Bool). zone_entry (zone_id line) b (seg_len line step.seg.0) u long step (holder_of line (zone_id line) s step.seg.0)) (sym (known_is line s p l k sound u.0))
+      ∙ ap (λ (h : Option ℕ). zone_entry (zone_id line) (is_some (find_way u.0 p.ways)) (seg_len line step.seg.0) u long step h) (sym (holder_is line s p l k sound step.seg.0))
   zone_takes_now (msg.Ask u time steps to) =
       ap (λ (n : ℕ). zone_ask (seg_len line) (zone_id line) u n (way line u.0 s) steps.items (limit line (zone_id line) u.0 s steps.items to)) (sym (last_is line s p l k sound u.0))
       ∙ (ap (λ (w : Option Path). zone_ask (seg_len line) (zone_id line) u (last_found (find_way u.0 p.ways)) w steps.items (limit line (zone_id line) u.0 s steps.items to)) (sym (path_is line s p l k sound u.0))

@@ -16,15 +16,15 @@ use Rattle.definitions.specs.declared.message.Msg.{Msg}
 use Rattle.definitions.specs.declared.message.Msg.TheVariants as msg
 use Rattle.definitions.specs.declared.outcome.Outcome.{Outcome}
 use Rattle.definitions.specs.declared.outcome.Outcome.TheVariants as out
-use Rattle.definitions.specs.declared.outcome.Refusal.TheVariants.{Known, TooLong}
+use Rattle.definitions.specs.declared.outcome.Refusal.TheVariants.{Known, TooLong, Held}
 use Rattle.definitions.specs.Track.{Line, ranged, seg_len, zone_of, has_zone, begins_at_portal}
-use Rattle.definitions.specs.Premises.{on_line, any_train, is_actor, built, same_portal, enters_rightly, takes_rightly, premise_of, admits}
+use Rattle.definitions.specs.Premises.{on_line, too_many, is_actor, built, same_portal, enters_rightly, takes_rightly, premise_of, admits}
 use Rattle.definitions.specs.Story.{Story, sent, ever_issued, greatest_in, greatest_issued, ever, first_told, by_world}
 use Rattle.definitions.specs.World.{Facts, facts_of, is_declared, first_entry, entered, HeldPath, taken_number, entry_authority, last_number, limit_held}
-use Rattle.definitions.specs.Control.{knows, counted, last_issued}
-use Rattle.definitions.specs.Authority.{longest_in, longest, way}
+use Rattle.definitions.specs.Control.{knows, counted, last_issued, answer_number}
+use Rattle.definitions.specs.Authority.{longest_in, longest, way, holder_of}
 use Rattle.definitions.specs.Limit.{asked_way, limit}
-use Rattle.definitions.specs.Steps.{Effect, nothing, entering, requesting, sender_of, entry_path, zone_ask, zone_takes, grant, path_to, made, taking, message, effects, story_of}
+use Rattle.definitions.specs.Steps.{Effect, nothing, entering, requesting, sender_of, entry_path, zone_ask, zone_takes, grant, path_to, made, taking, message, effects, story_of, enter_or_held, refuse}
 use Rattle.definitions.specs.Safe.{IsLineOfOneZone, Kept}
 use Rattle.plain_state.specs.Plain.{zone_id}
 use Rattle.story_laws.proofs.Lines.{both, zone_only, portal_on_line}
@@ -37,21 +37,26 @@ use Rattle.story_laws.proofs.Grant_moves.{granted_sound}
 
 -- A zone takes a message.
 
+refused_sound : (line : Line) (t z from number : ℕ) (m : Msg) (s : Story) (lines : List Outcome) → Sound line t s → answer_number t (Some (from, m)) ≡ 0 → Sound line t (take_made (suc z) from number m (record { issued = []; lines = lines }) ∷ s)
+refused_sound line t z from number m s lines sound none =
+    quiet_sound line t (suc z) from number m (record { issued = []; lines = lines }) s (silent_harmless line t lines s) refl (rw none (omega arith)) sound
+
 zone_entry_sound : (line : Line) (t z from to number k : ℕ) (u : TrainId) (time long error speed : ℕ) (equipped : Bool) (step : DirSeg) (s : Story) → suc z ≡ zone_id line → slice_get (sent from to s) k ≡ Some (msg.EntryAsk u time long error speed equipped step) → Sound line t s → Sound line t (take_made (suc z) from number (msg.EntryAsk u time long error speed equipped step) (zone_takes line (suc z) s (msg.EntryAsk u time long error speed equipped step)) ∷ s)
 zone_entry_sound line t z from to number k u time long error speed equipped step s is sent_is sound =
     let m = msg.EntryAsk u time long error speed equipped step in
     by_test (knows (suc z) u.0 s)
-    (λ y. rw y (quiet_sound line t (suc z) from number m (record { issued = []; lines = out.NoEntry (record { 0 = suc z }) u Known ∷ [] }) s (silent_harmless line t (out.NoEntry (record { 0 = suc z }) u Known ∷ []) s) refl (omega arith) sound))
+    (λ y. rw y (refused_sound line t z from number m s (refuse (suc z) u Known).lines sound refl))
     (λ fresh. by_test (nat_lt (seg_len line step.seg.0) long)
-    (λ y. rw (fresh, y) (quiet_sound line t (suc z) from number m (record { issued = []; lines = out.NoEntry (record { 0 = suc z }) u TooLong ∷ [] }) s (silent_harmless line t (out.NoEntry (record { 0 = suc z }) u TooLong ∷ []) s) refl (omega arith) sound))
-    (λ room.
-    let lines : List Outcome = out.Entry (record { 0 = suc z }) u 1 ∷ [] in
-    let path : Path = entry_path step (seg_len line step.seg.0) in
-    rw (fresh, room) (by_test (nat_eq u.0 t)
-    (λ its.
-    let e : u.0 ≡ t = eqb-true u.0 t its in
-    entered_sound line t z from to number k u time long error speed equipped step lines s is its sent_is (rw e at fresh) room sound)
-    (λ other. quiet_sound line t (suc z) from number m (record { issued = (0, msg.Auth u 1 0 path) ∷ []; lines = lines }) s (other_harmless line t u 1 0 path lines s other) refl (omega arith) sound))))
+    (λ y. rw (fresh, y) (refused_sound line t z from number m s (refuse (suc z) u TooLong).lines sound refl))
+    (λ room. rw (fresh, room) (holder_case (holder_of line (suc z) s step.seg.0) fresh room)))
+  where
+    holder_case : (holder : Option ℕ) → knows (suc z) u.0 s ≡ false → nat_lt (seg_len line step.seg.0) long ≡ false → Sound line t (take_made (suc z) from number (msg.EntryAsk u time long error speed equipped step) (enter_or_held (suc z) (seg_len line step.seg.0) u step holder) ∷ s)
+    holder_case (Some h) fresh room = refused_sound line t z from number (msg.EntryAsk u time long error speed equipped step) s (refuse (suc z) u (Held (record { 0 = h }))).lines sound refl
+    holder_case None fresh room = by_test (nat_eq u.0 t)
+        (λ its.
+        let e : u.0 ≡ t = eqb-true u.0 t its in
+        entered_sound line t z from to number k u time long error speed equipped step (out.Entry (record { 0 = suc z }) u 1 ∷ []) s is its sent_is (rw e at fresh) room sound)
+        (λ other. quiet_sound line t (suc z) from number (msg.EntryAsk u time long error speed equipped step) (record { issued = (0, msg.Auth u 1 0 (entry_path step (seg_len line step.seg.0))) ∷ []; lines = out.Entry (record { 0 = suc z }) u 1 ∷ [] }) s (other_harmless line t u 1 0 (entry_path step (seg_len line step.seg.0)) (out.Entry (record { 0 = suc z }) u 1 ∷ []) s other) refl (omega arith) sound)
 
 -- an ask, by what the way is
 ask_case : (line : Line) (t z from to number k : ℕ) (u : TrainId) (time : ℕ) (steps : ArrayVec DirSeg) (limit_to : ℕ) (s : Story) (w : Option Path) → way line u.0 s ≡ w → slice_get (sent from to s) k ≡ Some (msg.Ask u time steps limit_to) → Sound line t s → Sound line t (take_made (suc z) from number (msg.Ask u time steps limit_to) (zone_ask (seg_len line) (suc z) u (last_issued u.0 s) w steps.items (limit line (suc z) u.0 s steps.items limit_to)) ∷ s)
@@ -121,19 +126,25 @@ take_case line t (suc z) from number s (Some m) l actor is sound =
 
 -- What admitting tells.
 
+not_true : (b : Bool) → not b ≡ true → b ≡ false
+not_true true h = absurd cc
+not_true false h = refl
+
 pub record Admitted (line : Line) (s : Story) (e : Event) : Type 0 where
   pub form : built line s e ≡ true
+  pub within : too_many s e ≡ false
   pub entering : enters_rightly s e ≡ true
   pub taking : takes_rightly s e ≡ true
 
 pub admitted : (line : Line) (s : Story) (e : Event) → admits line s e ≡ true → Admitted line s e
 admitted line s e h =
-    let k = both (built line s e) (nat_eq (premise_of s e) 0) h in
+    let k = both (built line s e) (not (too_many s e) && nat_eq (premise_of s e) 0) h in
+    let n = both (not (too_many s e)) (nat_eq (premise_of s e) 0) k.1 in
     by_test (enters_rightly s e)
     (λ y. by_test (takes_rightly s e)
-    (λ x. record { form = k.0; entering = y; taking = x })
-    (λ x. absurd (let a : false ≡ true = rw (y, x) at k.1 in cc)))
-    (λ y. absurd (let a : false ≡ true = rw y at k.1 in cc))
+    (λ x. record { form = k.0; within = not_true (too_many s e) n.0; entering = y; taking = x })
+    (λ x. absurd (let a : false ≡ true = rw (y, x) at n.1 in cc)))
+    (λ y. absurd (let a : false ≡ true = rw y at n.1 in cc))
 
 entry_case : (line : Line) (t : ℕ) (u : TrainId) (step : DirSeg) (s : Story) (f : Option Facts) → IsLineOfOneZone line → facts_of u.0 s ≡ f → is_some f ≡ true → begins_at_portal line step ≡ true → same_portal step (first_entry u.0 s) ≡ true → Sound line t s → Sound line t (made (Entry u step) 0 None (requesting u step (zone_of line step.seg.0) f) ∷ s)
 entry_case line t u step s None l is some portal same sound = absurd cc
@@ -144,12 +155,8 @@ enter_case : (line : Line) (t : ℕ) (u : TrainId) (s : Story) (h : Option HeldP
 enter_case line t u s None is some sound = absurd cc
 enter_case line t u s (Some h) is some sound = enter_sound line t u h s is sound
 
-not_true : (b : Bool) → not b ≡ true → b ≡ false
-not_true true h = absurd cc
-not_true false h = refl
-
 pub sound_step : (line : Line) (t : ℕ) (s : Story) (e : Event) → IsLineOfOneZone line → Admitted line s e → Sound line t s → Sound line t (effects line s e ∷ s)
-sound_step line t s (Train u long error speed kind) l a sound = train_sound line t u long error speed kind s (not_true (any_train s) (both (ranged 1 60000 speed) (not (any_train s)) a.form).1) sound
+sound_step line t s (Train u long error speed kind) l a sound = train_sound line t u long error speed kind s (not_true (is_declared u.0 s) (both (ranged 1 60000 speed) (not (is_declared u.0 s)) a.form).1) sound
 sound_step line t s (Entry u step) l a sound =
     let k = both (is_declared u.0 s) (begins_at_portal line step) a.form in
     entry_case line t u step s (facts_of u.0 s) l refl k.0 k.1 a.entering sound

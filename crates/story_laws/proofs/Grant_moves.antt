@@ -19,7 +19,7 @@ use Rattle.definitions.specs.Story.{Entry as Made, Story, sent, ever_issued, gre
 use Rattle.definitions.specs.World.{Facts, facts_in, facts_of, is_declared, long_or_0, long_of, entry_in, first_entry, entered, HeldPath, taken_entry, entry_authority, last_number, limit_held, path_beyond, limit_has}
 use Rattle.definitions.specs.Control.{grants_entry, controls, known_long, counted, last_issued}
 use Rattle.definitions.specs.Authority.{farther, longest_in, longest, way}
-use Rattle.definitions.specs.Limit.{Reach, last_step, beyond, or_all, further, asked_way, limit}
+use Rattle.definitions.specs.Limit.{Reach, last_step, beyond, or_all, further, asked_way, limit, barring}
 use Rattle.definitions.specs.Steps.{Effect, path_to}
 use Rattle.plain_state.specs.Plain.{zone_id}
 use Rattle.way_laws.proofs.Cut.{cut_all}
@@ -125,7 +125,7 @@ module _ (line : Line) (t z from to number k : ℕ) (u : TrainId) (time : ℕ) (
   -- the end of the ask lies on the asked way
   within_asked : WayIs line t s → way line t s ≡ Some path → far line t s ≡ Some path → (w : WayIs line t s) → w.path ≡ path → end_place len path + reach.distance ≤ total len (asked_way path.steps.items steps.items)
   within_asked x is far_is w same =
-      rw is (reach_granted line (controls (suc z) t s && nat_lt 0 (counted t s)) path steps.items limit_to
+      rw is (reach_granted line (controls (suc z) t s && nat_lt 0 (counted t s)) path steps.items limit_to (barring line (suc z) t s)
       (let a = some_steps w.path.steps.items w.step w.rest w.starts in subst (λ (q : Path). 0 < length q.steps.items) same a)
       (subst (λ (q : Path). end_place len q ≤ total len q.steps.items) same w.within))
 

@@ -15,15 +15,15 @@ use Rattle.definitions.specs.declared.message.Msg.{Msg}
 use Rattle.definitions.specs.declared.message.Msg.TheVariants as msg
 use Rattle.definitions.specs.declared.outcome.Outcome.{Outcome}
 use Rattle.definitions.specs.declared.outcome.Outcome.TheVariants as out
-use Rattle.definitions.specs.declared.outcome.Refusal.TheVariants.{Known, TooLong}
+use Rattle.definitions.specs.declared.outcome.Refusal.TheVariants.{Known, TooLong, Held}
 use Rattle.definitions.specs.Track.{Line, seg_len, zone_of, owner}
 use Rattle.definitions.specs.Premises.{is_actor}
 use Rattle.definitions.specs.Story.{Entry as Made, Story, sent, ever}
 use Rattle.definitions.specs.World.{Facts, facts_of, entry_authority}
 use Rattle.definitions.specs.Control.{grants_entry, asks_entry, controls, knows, counted, last_issued}
-use Rattle.definitions.specs.Authority.{longest_in, way, way_has, held}
-use Rattle.definitions.specs.Limit.{asked_way, continues, limit}
-use Rattle.definitions.specs.Steps.{Effect, nothing, sender_of, entering, requesting, entry_path, path_to, zone_ask, zone_takes, grant, world_takes, made, taking, message, effects, story_of}
+use Rattle.definitions.specs.Authority.{longest_in, way, way_has, held, holder_of}
+use Rattle.definitions.specs.Limit.{asked_way, continues, limit, ask_of, barring}
+use Rattle.definitions.specs.Steps.{Effect, nothing, sender_of, entering, requesting, entry_path, path_to, zone_ask, zone_takes, grant, world_takes, made, taking, message, effects, story_of, enter_or_held}
 use Rattle.definitions.specs.Safe.{IsReach, Granted, IsLineOfOneZone, Kept, AllGranted, reached, added_by, added}
 use Rattle.plain_state.specs.Plain.{zone_id}
 use Rattle.way_laws.proofs.Cut.{none_between}
@@ -115,10 +115,10 @@ and_left : (a b : Bool) → a ≡ true → (a && b) ≡ b
 and_left true b h = refl
 and_left false b h = absurd cc
 
-granted_entry_exact : (line : Line) (t z from number : ℕ) (u : TrainId) (time long error speed : ℕ) (equipped : Bool) (step : DirSeg) (lines : List Outcome) (s : Story) (point : Point) → suc z ≡ zone_id line → nat_eq u.0 t ≡ true → knows (suc z) t s ≡ false → nat_lt (seg_len line step.seg.0) long ≡ false → Sound line t s → Sound line t (take_made (suc z) from number (msg.EntryAsk u time long error speed equipped step) (entry_effect u (entry_path step (seg_len line step.seg.0)) lines) ∷ s)
+granted_entry_exact : (line : Line) (t z from number : ℕ) (u : TrainId) (time long error speed : ℕ) (equipped : Bool) (step : DirSeg) (lines : List Outcome) (s : Story) (point : Point) → suc z ≡ zone_id line → nat_eq u.0 t ≡ true → knows (suc z) t s ≡ false → nat_lt (seg_len line step.seg.0) long ≡ false → holder_of line (suc z) s step.seg.0 ≡ None → Sound line t s → Sound line t (take_made (suc z) from number (msg.EntryAsk u time long error speed equipped step) (entry_effect u (entry_path step (seg_len line step.seg.0)) lines) ∷ s)
     → Exact line (suc z) t (take_made (suc z) from number (msg.EntryAsk u time long error speed equipped step) (entry_effect u (entry_path step (seg_len line step.seg.0)) lines)) s point
 unfolding place_of_last
-granted_entry_exact line t z from number u time long error speed equipped step lines s point zone its fresh room sound after =
+granted_entry_exact line t z from number u time long error speed equipped step lines s point zone its fresh room free sound after =
     let len = seg_len line in
     let path : Path = entry_path step (len step.seg.0) in
     let e : Made = take_made (suc z) from number (msg.EntryAsk u time long error speed equipped step) (entry_effect u path lines) in
@@ -129,7 +129,7 @@ granted_entry_exact line t z from number u time long error speed equipped step l
     let same : nat_eq (suc z) (suc z) ≡ true = grind (arith, nat_tests) in
     let left : held line (suc z) t (e ∷ s) point ≡ (nat_eq (owner line point) (suc z) && path_has len path point) = rw (control, way_is) refl in
     let before : held line (suc z) t s point ≡ false = rw fresh refl in
-    left ∙ sym (rw (before, same, its, fresh, room) refl)
+    left ∙ sym (rw (before, same, its, fresh, room, free) refl)
 
 algebra : (c o a b : Bool) → c ≡ true → (c && (o && (a || b))) ≡ ((c && (o && a)) || (o && b))
 algebra true true true b h = refl
@@ -163,6 +163,25 @@ silent_exact line t z from number m x s point h sound after none =
     nothing_added line (suc z) t (take_made (suc z) from number m x) s point (harmless_still line t (suc z) from number m x s h) sound after
     (rw (none, and_no (nat_eq (suc z) (suc z))) refl)
 
+-- an entry of a train that is not known and not too long, by who holds the segment
+entry_open_exact : (line : Line) (t z from number : ℕ) (u : TrainId) (time long error speed : ℕ) (equipped : Bool) (step : DirSeg) (s : Story) (point : Point) (holder : Option ℕ) → suc z ≡ zone_id line → holder_of line (suc z) s step.seg.0 ≡ holder → knows (suc z) u.0 s ≡ false → nat_lt (seg_len line step.seg.0) long ≡ false → Sound line t s
+    → Sound line t (take_made (suc z) from number (msg.EntryAsk u time long error speed equipped step) (enter_or_held (suc z) (seg_len line step.seg.0) u step holder) ∷ s)
+    → Exact line (suc z) t (take_made (suc z) from number (msg.EntryAsk u time long error speed equipped step) (enter_or_held (suc z) (seg_len line step.seg.0) u step holder)) s point
+entry_open_exact line t z from number u time long error speed equipped step s point (Some h) zone is fresh room sound after =
+    let m = msg.EntryAsk u time long error speed equipped step in
+    let lines : List Outcome = out.NoEntry (record { 0 = suc z }) u (Held (record { 0 = h })) ∷ [] in
+    let none : added_by line (suc z) t s m point ≡ false = rw (is, room, and_no (not (knows (suc z) t s)), and_no (nat_eq u.0 t)) refl in
+    silent_exact line t z from number m (record { issued = []; lines = lines }) s point (silent_harmless line t lines s) sound after none
+entry_open_exact line t z from number u time long error speed equipped step s point None zone is fresh room sound after =
+    let m = msg.EntryAsk u time long error speed equipped step in
+    let path : Path = entry_path step (seg_len line step.seg.0) in
+    let lines : List Outcome = out.Entry (record { 0 = suc z }) u 1 ∷ [] in
+    by_test (nat_eq u.0 t)
+    (λ its.
+    let same : u.0 ≡ t = eqb-true u.0 t its in
+    granted_entry_exact line t z from number u time long error speed equipped step lines s point zone its (subst (λ (n : ℕ). knows (suc z) n s ≡ false) same fresh) room is sound after)
+    (λ other. silent_exact line t z from number m (entry_effect u path lines) s point (other_harmless line t u 1 0 path lines s other) sound after (rw other refl))
+
 entry_take_exact : (line : Line) (t z from number : ℕ) (u : TrainId) (time long error speed : ℕ) (equipped : Bool) (step : DirSeg) (s : Story) (point : Point) → suc z ≡ zone_id line → Sound line t s → Sound line t (take_made (suc z) from number (msg.EntryAsk u time long error speed equipped step) (zone_takes line (suc z) s (msg.EntryAsk u time long error speed equipped step)) ∷ s)
     → Exact line (suc z) t (take_made (suc z) from number (msg.EntryAsk u time long error speed equipped step) (zone_takes line (suc z) s (msg.EntryAsk u time long error speed equipped step))) s point
 entry_take_exact line t z from number u time long error speed equipped step s point zone sound after =
@@ -186,14 +205,10 @@ entry_take_exact line t z from number u time long error speed equipped step s po
     let x_is : zone_takes line (suc z) s m ≡ record { issued = []; lines = long_line } = rw (fresh, too) refl in
     subst (λ (y : Effect). Exact line (suc z) t (take_made (suc z) from number m y) s point) (sym x_is) (silent_exact line t z from number m (record { issued = []; lines = long_line }) s point (silent_harmless line t long_line s) sound after_x none))
     (λ room.
-    let x : Effect = entry_effect u path entry_line in
-    let after_x : Sound line t (take_made (suc z) from number m x ∷ s) = rw (fresh, room) at after in
-    let x_is : zone_takes line (suc z) s m ≡ x = rw (fresh, room) refl in
-    subst (λ (y : Effect). Exact line (suc z) t (take_made (suc z) from number m y) s point) (sym x_is) (by_test (nat_eq u.0 t)
-    (λ its.
-    let same : u.0 ≡ t = eqb-true u.0 t its in
-    granted_entry_exact line t z from number u time long error speed equipped step entry_line s point zone its (subst (λ (n : ℕ). knows (suc z) n s ≡ false) same fresh) room sound after_x)
-    (λ other. silent_exact line t z from number m x s point (other_harmless line t u 1 0 path entry_line s other) sound after_x (rw other refl)))))
+    let after_x : Sound line t (take_made (suc z) from number m (enter_or_held (suc z) (seg_len line step.seg.0) u step (holder_of line (suc z) s step.seg.0)) ∷ s) = rw (fresh, room) at after in
+    let x_is : zone_takes line (suc z) s m ≡ enter_or_held (suc z) (seg_len line step.seg.0) u step (holder_of line (suc z) s step.seg.0) = rw (fresh, room) refl in
+    subst (λ (y : Effect). Exact line (suc z) t (take_made (suc z) from number m y) s point) (sym x_is)
+    (entry_open_exact line t z from number u time long error speed equipped step s point (holder_of line (suc z) s step.seg.0) zone refl fresh room sound after_x)))
 
 ask_take_exact : (line : Line) (t z from to number k : ℕ) (u : TrainId) (time : ℕ) (steps : ArrayVec DirSeg) (limit_to : ℕ) (s : Story) (point : Point) (w : Option Path) → suc z ≡ zone_id line → way line u.0 s ≡ w → Sound line t s → Sound line t (take_made (suc z) from number (msg.Ask u time steps limit_to) (zone_ask (seg_len line) (suc z) u (last_issued u.0 s) w steps.items (limit line (suc z) u.0 s steps.items limit_to)) ∷ s)
     → Exact line (suc z) t (take_made (suc z) from number (msg.Ask u time steps limit_to) (zone_ask (seg_len line) (suc z) u (last_issued u.0 s) w steps.items (limit line (suc z) u.0 s steps.items limit_to))) s point
@@ -287,8 +302,8 @@ exact_step line y t s (Take to from number) point l a sound after =
     take_exact line y t to from number s point (message from to number s) l (both (is_actor line to) (is_actor line from) f.1).0 refl sound after
 
 -- an ask that no bar refuses reaches exactly the first obstacle
-ask_reaches : (line : Line) (s : Story) (z t to : ℕ) (asked : List DirSeg) (path : Path) → way line t s ≡ Some path → (controls z t s && nat_lt 0 (counted t s)) ≡ true → continues line path.steps.items asked ≡ true → IsReach (seg_len line) (asked_way path.steps.items asked) (end_place (seg_len line) path) to (limit line z t s asked to)
-ask_reaches line s z t to asked path is ready joins = rw (is, ready, joins) (reach_is (seg_len line) (asked_way path.steps.items asked) (end_place (seg_len line) path) to)
+ask_reaches : (line : Line) (s : Story) (z t to : ℕ) (asked : List DirSeg) (path : Path) → way line t s ≡ Some path → (controls z t s && nat_lt 0 (counted t s)) ≡ true → continues line path.steps.items asked ≡ true → IsReach (seg_len line) (ask_of (seg_len line) path asked to (barring line z t s)) (limit line z t s asked to)
+ask_reaches line s z t to asked path is ready joins = rw (is, ready, joins) (reach_is (seg_len line) (ask_of (seg_len line) path asked to (barring line z t s)))
 
 pub granted_step : (line : Line) (s : Story) (e : Event) → IsLineOfOneZone line → Admitted line s e → ((t : ℕ) → Sound line t s) → ((t : ℕ) → Sound line t (effects line s e ∷ s)) → Granted line s e
 granted_step line s e l a sound after = record {

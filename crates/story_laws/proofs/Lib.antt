@@ -7,7 +7,10 @@ pub mod Take_moves
 pub mod Entry_moves
 pub mod Grant_moves
 pub mod Every
+pub mod Granting
+pub mod Apart
 pub mod Safety
+pub mod Known
 pub mod Values
 pub mod Admitting
 pub mod Links
@@ -15,4 +18,3 @@ pub mod World_linked
 pub mod Take_linked
 pub mod Linking
 pub mod Linked
-pub mod Granting

@@ -17,26 +17,28 @@ use Rattle.definitions.specs.declared.message.Msg.TheVariants as msg
 use Rattle.definitions.specs.declared.outcome.Outcome.{Outcome}
 use Rattle.definitions.specs.declared.outcome.Outcome.TheVariants as out
 use Rattle.definitions.specs.Track.{Line, ranged, seg_len, zone_of, begins_at_portal}
-use Rattle.definitions.specs.Premises.{any_train, is_actor, takes_rightly}
+use Rattle.definitions.specs.Premises.{is_actor, takes_rightly}
 use Rattle.definitions.specs.Story.{Entry as Made, Story, sent, ever, ever_issued, first_told}
-use Rattle.definitions.specs.World.{is_declared, entered, entry_authority}
-use Rattle.definitions.specs.Control.{controls, knows, answer_number, counted, last_issued}
-use Rattle.definitions.specs.Authority.{longest, way}
-use Rattle.definitions.specs.Limit.{Reach, reach_from, asked_way, limit}
+use Rattle.definitions.specs.World.{trains, is_auth, is_declared, entered, entry_authority}
+use Rattle.definitions.specs.Control.{controls, knows, known_trains, answer_number, counted, last_issued}
+use Rattle.definitions.specs.Authority.{longest, way, holder_of}
+use Rattle.definitions.specs.Limit.{Reach, reach_from, barring, asked_way, limit}
 use Rattle.definitions.specs.Steps.{Effect, nothing, zone_ask, zone_takes, grant, taking, message, effects, story_of}
 use Rattle.definitions.specs.Safe.{IsLineOfOneZone, Kept}
 use Rattle.plain_state.specs.declared.ZoneTrain.{ZoneTrain}
-use Rattle.plain_state.specs.Plain.{Plain, plain_start, zone_id, find_train, find_way, change_way, ways_asked, answered_by, reach_plain, ways_after, world_takes_plain, zone_takes_plain, link, taken_next, plain_effect, plain_next, plain_of, by_zone as zone_next}
+use Rattle.plain_state.specs.Plain.{Plain, plain_start, zone_id, find_train, find_way, change_way, lengthened, ways_asked, holder_plain, answered_by, reach_plain, ways_after, world_takes_plain, zone_takes_plain, link, taken_next, plain_effect, plain_next, plain_of, by_zone as zone_next}
+use Rattle.std.specs.List.{list_any}
+use Rattle.story_laws.proofs.Known.{ids, Distinct}
 use Rattle.story_laws.proofs.Lines.{both}
 use Rattle.story_laws.proofs.Sound.{far, Sound}
 use Rattle.story_laws.proofs.Take_moves.{silent_harmless, take_made}
 use Rattle.story_laws.proofs.Grant_moves.{way_far}
 use Rattle.story_laws.proofs.Every.{actor_zone, Admitted, admitted, sound_step, sound_story}
-use Rattle.story_laws.proofs.Values.{Linked, zone_train_of, zone_train, known_is, reach_is}
+use Rattle.story_laws.proofs.Values.{Linked, zone_train_of, zone_train, known_is, holder_is, reach_is}
 use Rattle.story_laws.proofs.Admitting.{link_now, taken_now, effect_now}
-use Rattle.story_laws.proofs.Links.{mapped, way_change, way_other, longest_same, issued_same, zone_same, counted_elsewhere}
+use Rattle.story_laws.proofs.Links.{mapped, ids_change, distinct_change, way_change, way_other, longest_same, issued_same, zone_same, counted_elsewhere}
 use Rattle.story_laws.proofs.World_linked.{train_linked, entry_linked, enter_linked, ask_linked}
-use Rattle.story_laws.proofs.Take_linked.{world_take_linked, zone_linked, still_found, entry_take_linked, asked_found}
+use Rattle.story_laws.proofs.Take_linked.{world_take_linked, zone_linked, KnownNow, known_still, still_found, entry_take_linked, asked_found}
 
 -- An ask that the zone takes.
 
@@ -45,7 +47,7 @@ ask_found : (line : Line) (t z from number : ℕ) (u : TrainId) (time : ℕ) (st
     → find_way t (ways_asked (seg_len line) u.0 steps.items (limit line (suc z) u.0 s steps.items limit_to) p.ways) ≡ zone_train line t (take_made (suc z) from number (msg.Ask u time steps limit_to) (zone_ask (seg_len line) (suc z) u (last_issued u.0 s) w steps.items (limit line (suc z) u.0 s steps.items limit_to)) ∷ s)
 ask_found line t z from number u time steps limit_to s p None is k sound after =
     let none : nat_eq (limit line (suc z) u.0 s steps.items limit_to).distance 0 ≡ true =
-    ap (λ (x : Option Path). nat_eq (reach_from line (controls (suc z) u.0 s && nat_lt 0 (counted u.0 s)) x steps.items limit_to).distance 0) is in
+    ap (λ (x : Option Path). nat_eq (reach_from line (controls (suc z) u.0 s && nat_lt 0 (counted u.0 s)) x steps.items limit_to (barring line (suc z) u.0 s)).distance 0) is in
     let lines : List Outcome = out.Deny (record { 0 = suc z }) u (limit line (suc z) u.0 s steps.items limit_to).obstacle ∷ [] in
     rw none (still_found line t z from number (msg.Ask u time steps limit_to) (record { issued = []; lines = lines }) s p k (silent_harmless line t lines s) refl)
 ask_found line t z from number u time steps limit_to s p (Some path) is k sound after =
@@ -100,25 +102,44 @@ answer_found line t z from number u time n taken s p zone k sound after =
 
 -- Any message that the zone takes.
 
-zone_take_linked : (line : Line) (z from number : ℕ) (m : Msg) (s : Story) (p : Plain) (y : Effect) → IsLineOfOneZone line → suc z ≡ zone_id line → Linked line s p → ((t : ℕ) → Sound line t s) → ((t : ℕ) → Sound line t (take_made (suc z) from number m (zone_takes line (suc z) s m) ∷ s)) → y ≡ zone_takes line (suc z) s m → Linked line (take_made (suc z) from number m (zone_takes line (suc z) s m) ∷ s) (zone_next p (ways_after line p.ways m) y)
+grants_none : (a b : Bool) → (a && (false && b)) ≡ false
+grants_none true b = refl
+grants_none false b = refl
+
+asked_known : (line : Line) (z from number : ℕ) (u : TrainId) (time : ℕ) (steps : ArrayVec DirSeg) (limit_to : ℕ) (reach : Reach) (x : Effect) (s : Story) (p : Plain) → Linked line s p → KnownNow line (ways_asked (seg_len line) u.0 steps.items reach p.ways) (take_made (suc z) from number (msg.Ask u time steps limit_to) x ∷ s)
+asked_known line z from number u time steps limit_to reach x s p k =
+    let m = msg.Ask u time steps limit_to in
+    let none = grants_none (nat_eq (suc z) (zone_id line)) (list_any (λ y. is_auth 0 y.1) x.issued) in
+    by_test (nat_eq reach.distance 0)
+    (λ a. rw a (known_still line z from number m x s p p.ways k none refl k.distinct))
+    (λ b. rw b (known_still line z from number m x s p (change_way u.0 (lengthened (seg_len line) steps.items reach.distance) p.ways) k none
+    (ids_change u.0 (lengthened (seg_len line) steps.items reach.distance) p.ways (λ y. refl))
+    (distinct_change u.0 (lengthened (seg_len line) steps.items reach.distance) p.ways (λ y. refl) k.distinct)))
+
+zone_take_linked : (line : Line) (z from number : ℕ) (m : Msg) (s : Story) (p : Plain) (y : Effect) → IsLineOfOneZone line → suc z ≡ zone_id line → Linked line s p → ((t : ℕ) → Sound line t s) → ((t : ℕ) → Sound line t (take_made (suc z) from number m (zone_takes line (suc z) s m) ∷ s)) → y ≡ zone_takes line (suc z) s m → Linked line (take_made (suc z) from number m (zone_takes line (suc z) s m) ∷ s) (zone_next p (ways_after line (suc z) p.ways m) y)
 zone_take_linked line z from number (msg.EntryAsk u time long error speed equipped step) s p y l zone k sound after is =
     let known : is_some (find_way u.0 p.ways) ≡ knows (suc z) u.0 s = known_is line s p l k sound u.0 ∙ ap (λ (n : ℕ). knows n u.0 s) (sym zone) in
-    rw known (entry_take_linked line z from number u time long error speed equipped step s p y l zone k sound after is)
+    let holder : holder_plain line (suc z) p.ways step.seg.0 ≡ holder_of line (suc z) s step.seg.0 =
+    ap (λ (n : ℕ). holder_plain line n p.ways step.seg.0) zone ∙ (holder_is line s p l k sound step.seg.0 ∙ ap (λ (n : ℕ). holder_of line n s step.seg.0) (sym zone)) in
+    rw (known, holder) (entry_take_linked line z from number u time long error speed equipped step s p y l zone k sound after is)
 zone_take_linked line z from number (msg.Ask u time steps limit_to) s p y l zone k sound after is =
-    let reach : reach_plain line (find_way u.0 p.ways) steps.items limit_to ≡ limit line (suc z) u.0 s steps.items limit_to =
-    reach_is line s p l k sound u.0 steps.items limit_to ∙ ap (λ (n : ℕ). limit line n u.0 s steps.items limit_to) (sym zone) in
+    let reach : reach_plain line (suc z) p.ways u.0 steps.items limit_to ≡ limit line (suc z) u.0 s steps.items limit_to =
+    ap (λ (n : ℕ). reach_plain line n p.ways u.0 steps.items limit_to) zone ∙ (reach_is line s p l k sound u.0 steps.items limit_to ∙ ap (λ (n : ℕ). limit line n u.0 s steps.items limit_to) (sym zone)) in
     let m = msg.Ask u time steps limit_to in
     subst (λ (r : Reach). Linked line (take_made (suc z) from number m (zone_takes line (suc z) s m) ∷ s) (zone_next p (ways_asked (seg_len line) u.0 steps.items r p.ways) y)) (sym reach)
     (zone_linked line z from number m (zone_takes line (suc z) s m) s p (ways_asked (seg_len line) u.0 steps.items (limit line (suc z) u.0 s steps.items limit_to) p.ways) y l zone k
     (λ t. ask_found line t z from number u time steps limit_to s p (way line u.0 s) refl k (sound t) (after t))
+    (asked_known line z from number u time steps limit_to (limit line (suc z) u.0 s steps.items limit_to) (zone_takes line (suc z) s m) s p k)
     (ap (λ (x : Effect). x.issued) is))
 zone_take_linked line z from number (msg.Answer u time n taken) s p y l zone k sound after is =
     zone_linked line z from number (msg.Answer u time n taken) nothing s p (change_way u.0 (answered_by n) p.ways) y l zone k
     (λ t. answer_found line t z from number u time n taken s p zone k (sound t) (after t))
+    (known_still line z from number (msg.Answer u time n taken) nothing s p (change_way u.0 (answered_by n) p.ways) k (grants_none (nat_eq (suc z) (zone_id line)) false) (ids_change u.0 (answered_by n) p.ways (λ x. refl)) (distinct_change u.0 (answered_by n) p.ways (λ x. refl) k.distinct))
     (ap (λ (x : Effect). x.issued) is)
 zone_take_linked line z from number (msg.Auth u n mark path) s p y l zone k sound after is =
     zone_linked line z from number (msg.Auth u n mark path) nothing s p p.ways y l zone k
     (λ t. still_found line t z from number (msg.Auth u n mark path) nothing s p k (silent_harmless line t [] s) refl)
+    (known_still line z from number (msg.Auth u n mark path) nothing s p p.ways k (grants_none (nat_eq (suc z) (zone_id line)) false) refl k.distinct)
     (ap (λ (x : Effect). x.issued) is)
 
 -- A take, by what the link holds.
@@ -143,7 +164,7 @@ not_true false h = refl
 
 pub linked_step : (line : Line) (s : Story) (p : Plain) (e : Event) → IsLineOfOneZone line → Admitted line s e → Linked line s p → ((t : ℕ) → Sound line t s) → ((t : ℕ) → Sound line t (effects line s e ∷ s)) → Linked line (effects line s e ∷ s) (plain_next line p e)
 linked_step line s p (Train u long error speed kind) l a k sound after =
-    train_linked line u long error speed kind s p l (not_true (any_train s) (both (ranged 1 60000 speed) (not (any_train s)) a.form).1) k sound
+    train_linked line u long error speed kind s p l (not_true (is_declared u.0 s) (both (ranged 1 60000 speed) (not (is_declared u.0 s)) a.form).1) k sound
 linked_step line s p (Entry u step) l a k sound after =
     entry_linked line u step (zone_of line step.seg.0) s p (plain_effect line p (Entry u step)) l (both (is_declared u.0 s) (begins_at_portal line step) a.form).0 k
     (ap (λ (x : Effect). x.issued) (sym (effect_now line s p l k sound (Entry u step) a.form)))
@@ -158,14 +179,16 @@ linked_step line s p (Take to from number) l a k sound after =
     (take_linked line to from number s p (message from to number s) l (both (is_actor line to) (is_actor line from) f.1).0 a.taking refl k sound after)
 
 linked_start : (line : Line) → Linked line [] (plain_start (zone_id line))
-unfolding find_train find_way sent ever ever_issued first_told longest
+unfolding find_train find_way sent ever ever_issued first_told longest trains ids known_trains Distinct
 linked_start line = record {
   zone = refl;
   trains = λ t. refl;
   ways = λ t. refl;
   to_zone = refl;
   to_world = refl;
-  none = refl;
+  count = refl;
+  known = refl;
+  distinct = tt;
   unasked = λ t d. refl;
   stays_off = λ t d. refl;
   holds = λ t d. absurd cc;

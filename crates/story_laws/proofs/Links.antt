@@ -1,6 +1,7 @@
 -- The plain state follows the story, event by event.
-use Rattle.std.proofs.Common.{◌≡◌, ℕ, List, [], ◌∷◌, ◌++◌, Option, Some, None, Bool, true, false, refl, sym, ◌∙◌, ap, arith, max, if◌then◌else◌}
+use Rattle.std.proofs.Common.{◌≡◌, ℕ, suc, List, [], ◌∷◌, ◌++◌, length, Option, Some, None, Bool, true, false, refl, sym, ◌∙◌, ap, arith, max, if◌then◌else◌}
 use Rattle.std.proofs.lemmas.Bool.Decides.{nat_tests}
+use Rattle.std.proofs.lemmas.Bool.{eqb-true}
 use Rattle.std.specs.Prelude.{nat_eq, is_some}
 use Rattle.track_points.specs.declared.ids.DirSeg.{DirSeg}
 use Rattle.track_points.specs.declared.path.Path.{Path}
@@ -9,14 +10,14 @@ use Rattle.definitions.specs.declared.message.Msg.{Msg}
 use Rattle.definitions.specs.Track.{Line, seg_len}
 use Rattle.definitions.specs.Story.{Entry as Made, Story, or_else, to_actor, sent, greatest_in, greatest_issued, ever, first_told, world_took}
 use Rattle.definitions.specs.World.{Facts, facts_in, facts_of, is_declared, entry_in, first_entry, enters, entered, HeldPath, taken_number, taken_entry, entry_authority, auth_number, last_number}
-use Rattle.definitions.specs.Control.{controls, answer_number, counted, last_issued}
+use Rattle.definitions.specs.Control.{controls, grants_entry, asker, known_trains, answer_number, counted, last_issued}
 use Rattle.definitions.specs.Authority.{longest_in, longest, way}
 use Rattle.definitions.specs.Steps.{sender_of}
 use Rattle.definitions.specs.Safe.{IsLineOfOneZone}
 use Rattle.plain_state.specs.declared.WorldTrain.{WorldTrain}
 use Rattle.plain_state.specs.declared.ZoneTrain.{ZoneTrain}
 use Rattle.plain_state.specs.Plain.{find_train, change_train, find_way, change_way}
-use Rattle.plain_state.specs.Admits.{no_trains}
+use Rattle.story_laws.proofs.Known.{ids, Distinct}
 use Rattle.story_laws.proofs.Sound.{Sound}
 use Rattle.story_laws.proofs.Quiet.{same_told}
 use Rattle.story_laws.proofs.Values.{world_of, world_train, zone_train_of, zone_train, zone_positive}
@@ -75,14 +76,62 @@ way_append t (y ∷ xs) x = by_test (nat_eq y.id.0 t)
     (λ a. rw a refl)
     (λ b. rw b (way_append t xs x))
 
-pub no_trains_change : (u : ℕ) (f : WorldTrain → WorldTrain) (xs : List WorldTrain) → no_trains (change_train u f xs) ≡ no_trains xs
+pub length_change : (u : ℕ) (f : WorldTrain → WorldTrain) (xs : List WorldTrain) → length (change_train u f xs) ≡ length xs
 unfolding change_train
-no_trains_change u f [] = refl
-no_trains_change u f (x ∷ xs) = by_test (nat_eq x.id.0 u) (λ y. rw y refl) (λ n. rw n refl)
+length_change u f [] = refl
+length_change u f (x ∷ xs) = by_test (nat_eq x.id.0 u) (λ y. rw y refl) (λ n. rw n (ap (λ (k : ℕ). suc k) (length_change u f xs)))
 
-pub no_trains_append : (xs : List WorldTrain) (x : WorldTrain) → no_trains (xs ++ x ∷ []) ≡ false
-no_trains_append [] x = refl
-no_trains_append (y ∷ xs) x = refl
+pub length_append : (xs : List WorldTrain) (x : WorldTrain) → length (xs ++ x ∷ []) ≡ suc (length xs)
+length_append [] x = refl
+length_append (y ∷ xs) x = ap (λ (k : ℕ). suc k) (length_append xs x)
+
+-- Ways, one for each train.
+
+pub ids_change : (u : ℕ) (f : ZoneTrain → ZoneTrain) (xs : List ZoneTrain) → ((x : ZoneTrain) → (f x).id ≡ x.id) → ids (change_way u f xs) ≡ ids xs
+unfolding change_way ids
+ids_change u f [] keeps = refl
+ids_change u f (x ∷ xs) keeps = by_test (nat_eq x.id.0 u)
+    (λ y. rw (y, keeps x) refl)
+    (λ n. rw n (ap (λ (ys : List ℕ). x.id.0 ∷ ys) (ids_change u f xs keeps)))
+
+pub ids_append : (xs : List ZoneTrain) (x : ZoneTrain) → ids (xs ++ x ∷ []) ≡ ids xs ++ x.id.0 ∷ []
+unfolding ids
+ids_append [] x = refl
+ids_append (y ∷ xs) x = ap (λ (ys : List ℕ). y.id.0 ∷ ys) (ids_append xs x)
+
+none_changed : (t u : ℕ) (f : ZoneTrain → ZoneTrain) (xs : List ZoneTrain) → ((x : ZoneTrain) → (f x).id ≡ x.id) → find_way t xs ≡ None → find_way t (change_way u f xs) ≡ None
+none_changed t u f xs keeps none = by_test (nat_eq u t)
+    (λ y.
+    let e : u ≡ t = eqb-true u t y in
+    ap (λ (i : ℕ). find_way t (change_way i f xs)) e ∙ (way_change t f xs keeps ∙ ap (λ (x : Option ZoneTrain). mapped f x) none))
+    (λ n. way_other t u f xs keeps n ∙ none)
+
+pub distinct_change : (u : ℕ) (f : ZoneTrain → ZoneTrain) (xs : List ZoneTrain) → ((x : ZoneTrain) → (f x).id ≡ x.id) → Distinct xs → Distinct (change_way u f xs)
+unfolding change_way Distinct
+distinct_change u f [] keeps d = d
+distinct_change u f (x ∷ xs) keeps d = by_test (nat_eq x.id.0 u)
+    (λ y. rw (y, keeps x) d)
+    (λ n. rw n (none_changed x.id.0 u f xs keeps d.0, distinct_change u f xs keeps d.1))
+
+pub distinct_append : (xs : List ZoneTrain) (x : ZoneTrain) → find_way x.id.0 xs ≡ None → Distinct xs → Distinct (xs ++ x ∷ [])
+unfolding Distinct find_way
+distinct_append [] x none d = (refl, d)
+distinct_append (y ∷ xs) x none d = by_test (nat_eq y.id.0 x.id.0)
+    (λ a. absurd (let c : Some y ≡ None = rw a at none in cc))
+    (λ b.
+    let other : nat_eq x.id.0 y.id.0 ≡ false = grind (arith, nat_tests) in
+    let apart : find_way y.id.0 (xs ++ x ∷ []) ≡ None = way_append y.id.0 xs x ∙ rw (d.0, other) refl in
+    (apart, distinct_append xs x (rw b at none) d.1))
+
+-- The trains that a zone knows.
+
+pub known_same : (z : ℕ) (e : Made) (s : Story) → grants_entry z (asker e.took) e ≡ false → known_trains z (e ∷ s) ≡ known_trains z s
+unfolding known_trains
+known_same z e s h = rw h refl
+
+pub known_more : (z : ℕ) (e : Made) (s : Story) → grants_entry z (asker e.took) e ≡ true → known_trains z (e ∷ s) ≡ known_trains z s ++ asker e.took ∷ []
+unfolding known_trains
+known_more z e s h = rw h refl
 
 -- What an entry leaves of a train of the world.
 

@@ -1,8 +1,7 @@
 -- Every story of admitted events is safe.
-use Rattle.std.proofs.Common.{◌≡◌, ℕ, ◌+◌, ◌<◌, List, [], ◌∷◌, Option, Some, None, Bool, true, false, ◌&&◌, ◌||◌, refl, sym, ◌∙◌, ap, subst, arith, not}
+use Rattle.std.proofs.Common.{◌≡◌, ℕ, ◌+◌, ◌<◌, List, [], ◌∷◌, Option, Some, true, false, ◌&&◌, ◌||◌, refl, sym, ◌∙◌, ap, subst, arith}
 use Rattle.std.proofs.lemmas.Bool.Decides.{nat_tests}
-use Rattle.std.proofs.lemmas.Bool.{eqb-true}
-use Rattle.std.specs.Prelude.{nat_eq, nat_le, nat_lt, is_some}
+use Rattle.std.specs.Prelude.{nat_eq, nat_le, nat_lt}
 use Rattle.track_points.specs.declared.ids.DirSeg.{DirSeg}
 use Rattle.track_points.specs.declared.path.Path.{Path}
 use Rattle.track_points.specs.Points.{Lengths, Point, some_below, cell_at, is_at, total, end_place, path_has, has_between}
@@ -10,24 +9,22 @@ use Rattle.track_points.proofs.Some.{by_test, some_at}
 use Rattle.track_points.proofs.Places.{cell_within}
 use Rattle.track_points.proofs.Between.{points_found, points_wider}
 use Rattle.definitions.specs.declared.event.Event.{Event}
-use Rattle.definitions.specs.declared.event.Event.TheVariants.{Train, Entry, Enter, Ask, Take}
 use Rattle.definitions.specs.declared.message.Msg.{Msg}
 use Rattle.definitions.specs.declared.message.Msg.TheVariants as msg
-use Rattle.definitions.specs.Track.{Line, ranged, seg_len, owner}
-use Rattle.definitions.specs.Premises.{any_train}
-use Rattle.definitions.specs.Story.{Story, or_else, ever_issued, first_told}
-use Rattle.definitions.specs.World.{facts_in, facts_of, is_declared, long_of, first_entry, entered, journey, step_or_none, head, rear, train_has, limit_held, last_number, path_beyond, limit_has, auth_has, auth_has_any, usable}
+use Rattle.definitions.specs.Track.{Line, seg_len, owner}
+use Rattle.definitions.specs.Story.{Story, ever_issued}
+use Rattle.definitions.specs.World.{long_of, first_entry, entered, journey, step_or_none, head, rear, train_has, limit_held, last_number, path_beyond, limit_has, auth_has, auth_has_any, usable}
 use Rattle.definitions.specs.Control.{controls, known_long}
 use Rattle.definitions.specs.Authority.{way, way_has, held, possible_front, between_fronts, envelope_on, envelope}
-use Rattle.definitions.specs.Steps.{effects, taking, message, story_of}
+use Rattle.definitions.specs.Steps.{story_of}
 use Rattle.definitions.specs.Safe.{Safe, IsLineOfOneZone, Kept}
 use Rattle.plain_state.specs.Plain.{zone_id}
 use Rattle.story_laws.proofs.Notions.{or_split, ever_weaker, only_front}
 use Rattle.story_laws.proofs.Lines.{both, points_owner}
 use Rattle.story_laws.proofs.Sound.{far, covers, Sound}
-use Rattle.story_laws.proofs.World_moves.{none_declared}
 use Rattle.story_laws.proofs.Grant_moves.{way_far}
-use Rattle.story_laws.proofs.Every.{Admitted, admitted, sound_story}
+use Rattle.story_laws.proofs.Apart.{apart_story}
+use Rattle.story_laws.proofs.Every.{sound_story}
 
 no_rear : (t : ℕ) (s : Story) → rear t s ≡ 0
 no_rear t s = omega arith
@@ -127,58 +124,6 @@ far_held line t s point l sound h = by_test (controls (zone_id line) t s)
     (λ y. way_of_held line t s point l sound y h)
     (λ n. absurd (let a : false ≡ true = rw (sound.unknown_way n) at h in cc))
 
--- At most one train is declared.
-
-event_is : (line : Line) (s : Story) (e : Event) → (effects line s e).event ≡ e
-event_is line s (Train u long error speed kind) = refl
-event_is line s (Entry u step) = refl
-event_is line s (Enter u) = refl
-event_is line s (Ask u z steps to) = refl
-event_is line s (Take to from number) = taken (message from to number s)
-  where
-    taken : (r : Option Msg) → (taking line s (Take to from number) to from r).event ≡ Take to from number
-    taken None = refl
-    taken (Some m) = refl
-
-or_some : {A : Type 0} (x y : Option A) → is_some (or_else x y) ≡ true → (is_some x || is_some y) ≡ true
-or_some None y h = h
-or_some (Some x) y h = refl
-
-declared_next : (line : Line) (t : ℕ) (s : Story) (e : Event) → is_declared t (effects line s e ∷ s) ≡ true → (is_declared t s || is_some (facts_in t e)) ≡ true
-unfolding first_told
-declared_next line t s e h = ap (λ (x : Event). is_declared t s || is_some (facts_in t x)) (sym (event_is line s e)) ∙ or_some (facts_of t s) (facts_in t (effects line s e).event) h
-
-not_true : (b : Bool) → not b ≡ true → b ≡ false
-not_true true h = absurd cc
-not_true false h = refl
-
-or_false : (b : Bool) → (b || false) ≡ true → b ≡ true
-or_false true h = refl
-or_false false h = h
-
-only_now : (line : Line) (t u : ℕ) (s : Story) (e : Event) → Admitted line s e → (is_declared t s ≡ true → is_declared u s ≡ true → t ≡ u) → (is_declared t s || is_some (facts_in t e)) ≡ true → (is_declared u s || is_some (facts_in u e)) ≡ true → t ≡ u
-only_now line t u s (Train v long error speed kind) a old h k =
-    let first : any_train s ≡ false = not_true (any_train s) (both (ranged 1 60000 speed) (not (any_train s)) a.form).1 in
-    let t_is : nat_eq v.0 t ≡ true = by_test (nat_eq v.0 t) (λ y. y) (λ n. absurd (let x : false ≡ true = rw (none_declared t s first, n) at h in cc)) in
-    let u_is : nat_eq v.0 u ≡ true = by_test (nat_eq v.0 u) (λ y. y) (λ n. absurd (let x : false ≡ true = rw (none_declared u s first, n) at k in cc)) in
-    sym (eqb-true v.0 t t_is) ∙ eqb-true v.0 u u_is
-only_now line t u s (Entry v step) a old h k = old (or_false (is_declared t s) h) (or_false (is_declared u s) k)
-only_now line t u s (Enter v) a old h k = old (or_false (is_declared t s) h) (or_false (is_declared u s) k)
-only_now line t u s (Ask v z steps to) a old h k = old (or_false (is_declared t s) h) (or_false (is_declared u s) k)
-only_now line t u s (Take to from number) a old h k = old (or_false (is_declared t s) h) (or_false (is_declared u s) k)
-
-pub one_train : (line : Line) (t u : ℕ) (es : List Event) → Kept line es → is_declared t (story_of line es) ≡ true → is_declared u (story_of line es) ≡ true → t ≡ u
-unfolding story_of Kept first_told
-one_train line t u [] k h i = absurd cc
-one_train line t u (e ∷ es) k h i =
-    only_now line t u (story_of line es) e (admitted line (story_of line es) e k.0) (one_train line t u es k.1)
-    (declared_next line t (story_of line es) e h) (declared_next line u (story_of line es) e i)
-
-held_declared : (line : Line) (z t : ℕ) (s : Story) (point : Point) → Sound line t s → held line z t s point ≡ true → is_declared t s ≡ true
-held_declared line z t s point sound h =
-    let c = (both (controls z t s) (nat_eq (owner line point) z && way_has (seg_len line) (way line t s) point) h).0 in
-    sound.declared (subst (λ (n : ℕ). controls n t s ≡ true) (sound.zone_alone z c) c)
-
 pub safe_story : (line : Line) (es : List Event) → IsLineOfOneZone line → Kept line es → Safe line (story_of line es)
 safe_story line es l k =
     let s = story_of line es in
@@ -187,5 +132,5 @@ safe_story line es l k =
       covers = λ z t point c h. covers_train line z t s point (sound t) c h;
       within = λ t point h. far_held line t s point l (sound t) ((sound t).covered point (usable_covered line t s point (sound t) h));
       way_held = λ z t point c h. far_held line t s point l (sound t) (ap (λ (x : Option Path). way_has (seg_len line) x point) (sym (way_far line t s (sound t))) ∙ h);
-      apart = λ y z t u point h i. one_train line t u es k (held_declared line y t s point (sound t) h) (held_declared line z u s point (sound u) i);
+      apart = λ y z t u point h i. apart_story line es y z t u point l k h i;
     }

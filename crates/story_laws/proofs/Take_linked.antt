@@ -1,5 +1,5 @@
 -- The plain state follows takes.
-use Rattle.std.proofs.Common.{◌≡◌, ℕ, suc, ◌+◌, List, [], ◌∷◌, ◌++◌, Option, Some, None, Bool, true, false, refl, sym, ◌∙◌, ap, subst, arith, max, if◌then◌else◌, not}
+use Rattle.std.proofs.Common.{◌≡◌, ℕ, suc, ◌+◌, List, [], ◌∷◌, ◌++◌, Option, Some, None, Bool, true, false, ◌&&◌, refl, sym, ◌∙◌, ap, subst, arith, max, if◌then◌else◌}
 use Rattle.std.proofs.lemmas.Bool.Decides.{nat_tests}
 use Rattle.std.proofs.lemmas.Bool.{eqb-true}
 use Rattle.std.specs.Prelude.{nat_eq, nat_lt, slice_get, is_some}
@@ -13,26 +13,28 @@ use Rattle.definitions.specs.declared.message.Msg.{Msg}
 use Rattle.definitions.specs.declared.message.Msg.TheVariants as msg
 use Rattle.definitions.specs.declared.outcome.Outcome.{Outcome}
 use Rattle.definitions.specs.declared.outcome.Outcome.TheVariants as out
-use Rattle.definitions.specs.declared.outcome.Refusal.TheVariants.{Known, TooLong}
+use Rattle.definitions.specs.declared.outcome.Refusal.{Refusal}
+use Rattle.definitions.specs.declared.outcome.Refusal.TheVariants.{Known, TooLong, Held}
 use Rattle.definitions.specs.Track.{Line, seg_len}
 use Rattle.definitions.specs.Story.{Entry as Made, Story, or_else, to_actor, sent, greatest_in, first_told}
 use Rattle.definitions.specs.World.{Facts, facts_in, facts_of, entry_in, first_entry, entered, HeldPath, taken_number, taken_entry, entry_authority, last_number}
-use Rattle.definitions.specs.Control.{controls, knows, answer_number, counted, last_issued}
-use Rattle.definitions.specs.Authority.{longest_in, way}
+use Rattle.definitions.specs.Control.{controls, knows, grants_entry, asker, known_trains, answer_number, counted, last_issued}
+use Rattle.definitions.specs.Authority.{longest_in, way, holder_of}
 use Rattle.definitions.specs.Limit.{Reach, asked_way, limit}
-use Rattle.definitions.specs.Steps.{Effect, nothing, sender_of, entry_path, path_to, zone_takes, grant, world_takes}
+use Rattle.definitions.specs.Steps.{Effect, nothing, sender_of, entry_path, refuse, enter_or_held, zone_entry, path_to, zone_takes, grant, world_takes}
 use Rattle.definitions.specs.Safe.{IsLineOfOneZone}
 use Rattle.plain_state.specs.declared.WorldTrain.{WorldTrain}
 use Rattle.plain_state.specs.declared.ZoneTrain.{ZoneTrain}
-use Rattle.plain_state.specs.Plain.{Plain, zone_id, find_train, change_train, took_auth, sender_if_first, trains_after, find_way, change_way, entered_way, ways_entered, lengthened, by_world as world_next, by_zone as zone_next}
+use Rattle.plain_state.specs.Plain.{Plain, zone_id, find_train, change_train, took_auth, sender_if_first, trains_after, find_way, change_way, entered_way, entered_or, ways_entered, lengthened, by_world as world_next, by_zone as zone_next}
+use Rattle.story_laws.proofs.Known.{ids, Distinct}
 use Rattle.story_laws.proofs.Sound.{far, Sound}
 use Rattle.story_laws.proofs.Quiet.{same_told}
 use Rattle.story_laws.proofs.Take_moves.{Harmless, silent_harmless, take_made, auth_harmless}
 use Rattle.story_laws.proofs.Entry_moves.{other_harmless, entry_effect, issued_now as entry_issued, longest_now as entry_longest}
 use Rattle.story_laws.proofs.Grant_moves.{way_far, grant_effect, issued_now as grant_issued, far_now as grant_far}
 use Rattle.story_laws.proofs.Values.{Linked, world_of, world_train, zone_train_of, zone_train}
-use Rattle.story_laws.proofs.Links.{mapped, find_change, find_other, no_trains_change, world_same, zone_same, counted_none, counted_elsewhere, world_controls, way_change, way_other, way_append, entered_same, sent_by, sent_else, unasked_same, off_same, holds_same}
-use Rattle.story_laws.proofs.World_linked.{world_linked, any_now, or_none}
+use Rattle.story_laws.proofs.Links.{mapped, find_change, find_other, length_change, known_same, known_more, distinct_append, ids_append, world_same, zone_same, counted_none, counted_elsewhere, world_controls, way_change, way_other, way_append, entered_same, sent_by, sent_else, unasked_same, off_same, holds_same}
+use Rattle.story_laws.proofs.World_linked.{world_linked, as_many, or_none}
 
 -- The world takes an authority.
 
@@ -93,7 +95,7 @@ module _ (line : Line) (from number : ℕ) (u : TrainId) (n mark : ℕ) (path : 
             (λ other. find_other t u.0 (took_auth from n) p.trains (λ z. kept_id z) other
             ∙ (k.trains t ∙ sym (world_same t e s (record { facts = refl; entry = refl; off = refl; taken = rw other refl }))));
         still = λ t. record { numbers = (h t).numbers; paths = (h t).paths; counts = counted_elsewhere t e s (world_controls line t s l (sound t)) };
-        none = no_trains_change u.0 (took_auth from n) p.trains ∙ (k.none ∙ sym (ap (λ (b : Bool). not b) (any_now e s)));
+        count = length_change u.0 (took_auth from n) p.trains ∙ (k.count ∙ sym (as_many e s refl));
         unasked = λ t. unasked_same t e s refl (k.unasked t);
         stays_off = λ t. off_same t e s refl (k.stays_off t);
         holds = λ t. holds_same t e s refl (k.holds t);
@@ -110,7 +112,7 @@ still_world_take line from number m s p l k sound none =
       by_world = refl;
       found = λ t. k.trains t ∙ sym (world_same t e s (record { facts = refl; entry = refl; off = refl; taken = none t }));
       still = λ t. record { numbers = refl; paths = λ n. refl; counts = counted_elsewhere t e s (world_controls line t s l (sound t)) };
-      none = k.none ∙ sym (ap (λ (b : Bool). not b) (any_now e s));
+      count = k.count ∙ sym (as_many e s refl);
       unasked = λ t. unasked_same t e s refl (k.unasked t);
       stays_off = λ t. off_same t e s refl (k.stays_off t);
       holds = λ t. holds_same t e s refl (k.holds t);
@@ -128,8 +130,20 @@ world_take_linked line from to number j (msg.Answer u time n taken) s p y sent_i
 
 -- The zone takes a message.
 
-pub zone_linked : (line : Line) (z from number : ℕ) (m : Msg) (x : Effect) (s : Story) (p : Plain) (ways : List ZoneTrain) (y : Effect) → IsLineOfOneZone line → suc z ≡ zone_id line → Linked line s p → ((t : ℕ) → find_way t ways ≡ zone_train line t (take_made (suc z) from number m x ∷ s)) → y.issued ≡ x.issued → Linked line (take_made (suc z) from number m x ∷ s) (zone_next p ways y)
-zone_linked line z from number m x s p ways y l zone k found is =
+-- the ways are those of the trains that the zone knows, one for each
+pub record KnownNow (line : Line) (ways : List ZoneTrain) (s : Story) : Type 0 where
+  pub ids_are : ids ways ≡ known_trains (zone_id line) s
+  pub distinct : Distinct ways
+
+-- a take that grants no entry
+pub known_still : (line : Line) (z from number : ℕ) (m : Msg) (x : Effect) (s : Story) (p : Plain) (ways : List ZoneTrain) → Linked line s p → grants_entry (zone_id line) (asker (Some (from, m))) (take_made (suc z) from number m x) ≡ false → ids ways ≡ ids p.ways → Distinct ways → KnownNow line ways (take_made (suc z) from number m x ∷ s)
+known_still line z from number m x s p ways k none same distinct = record {
+  ids_are = same ∙ (k.known ∙ sym (known_same (zone_id line) (take_made (suc z) from number m x) s none));
+  distinct = distinct;
+}
+
+pub zone_linked : (line : Line) (z from number : ℕ) (m : Msg) (x : Effect) (s : Story) (p : Plain) (ways : List ZoneTrain) (y : Effect) → IsLineOfOneZone line → suc z ≡ zone_id line → Linked line s p → ((t : ℕ) → find_way t ways ≡ zone_train line t (take_made (suc z) from number m x ∷ s)) → KnownNow line ways (take_made (suc z) from number m x ∷ s) → y.issued ≡ x.issued → Linked line (take_made (suc z) from number m x ∷ s) (zone_next p ways y)
+zone_linked line z from number m x s p ways y l zone k found known is =
     let e = take_made (suc z) from number m x in
     let here : nat_eq (suc z) (zone_id line) ≡ true = grind (arith, nat_tests) in
     let other : nat_eq (suc z) 0 ≡ false = grind (arith, nat_tests) in
@@ -140,7 +154,9 @@ zone_linked line z from number m x s p ways y l zone k found is =
       to_zone = k.to_zone ∙ sym (sent_else 0 (zone_id line) e s other);
       to_world = ap (λ (xs : List Msg). xs ++ to_actor 0 y.issued) k.to_world
           ∙ (ap (λ (xs : List (ℕ × Msg)). sent (zone_id line) 0 s ++ to_actor 0 xs) is ∙ sym (sent_by (zone_id line) 0 e s here));
-      none = k.none ∙ sym (ap (λ (b : Bool). not b) (any_now e s));
+      count = k.count ∙ sym (as_many e s refl);
+      known = known.ids_are;
+      distinct = known.distinct;
       unasked = λ t. unasked_same t e s refl (k.unasked t);
       stays_off = λ t. off_same t e s refl (k.stays_off t);
       holds = λ t. holds_same t e s refl (k.holds t);
@@ -188,20 +204,65 @@ module _ (line : Line) (z from number : ℕ) (u : TrainId) (time long error spee
       rw (before, its) (entered_new t same ∙ rw (way_is, last, answered) refl))
       (λ other. rw other (or_none (find_way t p.ways) ∙ still_found line t z from number ask granted s p k (other_harmless line t u 1 0 (entry_path step room) lines s other) refl))
 
-pub entry_take_linked : (line : Line) (z from number : ℕ) (u : TrainId) (time long error speed : ℕ) (equipped : Bool) (step : DirSeg) (s : Story) (p : Plain) (y : Effect) → IsLineOfOneZone line → suc z ≡ zone_id line → Linked line s p → ((t : ℕ) → Sound line t s) → ((t : ℕ) → Sound line t (take_made (suc z) from number (msg.EntryAsk u time long error speed equipped step) (zone_takes line (suc z) s (msg.EntryAsk u time long error speed equipped step)) ∷ s)) → y ≡ zone_takes line (suc z) s (msg.EntryAsk u time long error speed equipped step) → Linked line (take_made (suc z) from number (msg.EntryAsk u time long error speed equipped step) (zone_takes line (suc z) s (msg.EntryAsk u time long error speed equipped step)) ∷ s) (zone_next p (ways_entered (knows (suc z) u.0 s) (seg_len line step.seg.0) u long step p.ways) y)
-entry_take_linked line z from number u time long error speed equipped step s p y l zone k sound after is =
-    let m = msg.EntryAsk u time long error speed equipped step in
-    zone_linked line z from number m (zone_takes line (suc z) s m) s p (ways_entered (knows (suc z) u.0 s) (seg_len line step.seg.0) u long step p.ways) y l zone k
-    (λ t. found t) (ap (λ (x : Effect). x.issued) is)
-  where
-    found : (t : ℕ) → find_way t (ways_entered (knows (suc z) u.0 s) (seg_len line step.seg.0) u long step p.ways) ≡ zone_train line t (take_made (suc z) from number (msg.EntryAsk u time long error speed equipped step) (zone_takes line (suc z) s (msg.EntryAsk u time long error speed equipped step)) ∷ s)
-    found t = by_test (knows (suc z) u.0 s)
-        (λ a. rw a (still_found line t z from number (msg.EntryAsk u time long error speed equipped step) (record { issued = []; lines = out.NoEntry (record { 0 = suc z }) u Known ∷ [] }) s p k (silent_harmless line t (out.NoEntry (record { 0 = suc z }) u Known ∷ []) s) refl))
-        (λ fresh. by_test (nat_lt (seg_len line step.seg.0) long)
-        (λ b. rw (fresh, b) (still_found line t z from number (msg.EntryAsk u time long error speed equipped step) (record { issued = []; lines = out.NoEntry (record { 0 = suc z }) u TooLong ∷ [] }) s p k (silent_harmless line t (out.NoEntry (record { 0 = suc z }) u TooLong ∷ []) s) refl))
-        (λ c.
-        let after_t : Sound line t (take_made (suc z) from number (msg.EntryAsk u time long error speed equipped step) (entry_effect u (entry_path step (seg_len line step.seg.0)) (out.Entry (record { 0 = suc z }) u 1 ∷ [])) ∷ s) = rw (fresh, c) at (after t) in
-        rw (fresh, c) (entered_found line z from number u time long error speed equipped step (out.Entry (record { 0 = suc z }) u 1 ∷ []) s p t zone fresh k (sound t) after_t)))
+issues_none : (a b : Bool) → (a && (b && false)) ≡ false
+issues_none true true = refl
+issues_none true false = refl
+issues_none false b = refl
+
+-- a request for entry that is refused
+module _ (line : Line) (z from number : ℕ) (u : TrainId) (time long error speed : ℕ) (equipped : Bool) (step : DirSeg) (refusal : Refusal) (s : Story) (p : Plain) where
+  abbrev refused : Made
+  refused = take_made (suc z) from number (msg.EntryAsk u time long error speed equipped step) (refuse (suc z) u refusal)
+
+  refused_linked : (y : Effect) → IsLineOfOneZone line → suc z ≡ zone_id line → Linked line s p → y ≡ refuse (suc z) u refusal → Linked line (refused ∷ s) (zone_next p p.ways y)
+  refused_linked y l zone k is =
+      zone_linked line z from number (msg.EntryAsk u time long error speed equipped step) (refuse (suc z) u refusal) s p p.ways y l zone k
+      (λ t. still_found line t z from number (msg.EntryAsk u time long error speed equipped step) (refuse (suc z) u refusal) s p k (silent_harmless line t (refuse (suc z) u refusal).lines s) refl)
+      (known_still line z from number (msg.EntryAsk u time long error speed equipped step) (refuse (suc z) u refusal) s p p.ways k (issues_none (nat_eq (suc z) (zone_id line)) (nat_eq u.0 u.0)) refl k.distinct)
+      (ap (λ (x : Effect). x.issued) is)
+
+module _ (line : Line) (z from number : ℕ) (u : TrainId) (time long error speed : ℕ) (equipped : Bool) (step : DirSeg) (s : Story) (p : Plain) where
+  abbrev entry_m : Msg
+  entry_m = msg.EntryAsk u time long error speed equipped step
+
+  abbrev asked_room : ℕ
+  asked_room = seg_len line step.seg.0
+
+  abbrev linked_by : Bool → Option ℕ → Effect → Type 0
+  linked_by known holder y = Linked line (take_made (suc z) from number entry_m (zone_entry (suc z) known asked_room u long step holder) ∷ s) (zone_next p (ways_entered known asked_room u long step holder p.ways) y)
+
+  abbrev sound_by : Bool → Option ℕ → Type 0
+  sound_by known holder = (t : ℕ) → Sound line t (take_made (suc z) from number entry_m (zone_entry (suc z) known asked_room u long step holder) ∷ s)
+
+  granted_linked : (y : Effect) → IsLineOfOneZone line → suc z ≡ zone_id line → controls (suc z) u.0 s ≡ false → Linked line s p → ((t : ℕ) → Sound line t s) → ((t : ℕ) → Sound line t (take_made (suc z) from number entry_m (enter_or_held (suc z) asked_room u step None) ∷ s)) → y ≡ enter_or_held (suc z) asked_room u step None → Linked line (take_made (suc z) from number entry_m (enter_or_held (suc z) asked_room u step None) ∷ s) (zone_next p (p.ways ++ entered_way u asked_room step ∷ []) y)
+  granted_linked y l zone fresh k sound after is =
+      let e = take_made (suc z) from number entry_m (enter_or_held (suc z) asked_room u step None) in
+      let grants : grants_entry (zone_id line) u.0 e ≡ true = let a : nat_eq (suc z) (zone_id line) ≡ true = grind (arith, nat_tests) in let b : nat_eq u.0 u.0 ≡ true = grind (arith, nat_tests) in rw (a, b) refl in
+      let unknown : controls (zone_id line) u.0 s ≡ false = rw (← zone) fresh in
+      let no_way : way line u.0 s ≡ None = way_far line u.0 s (sound u.0) ∙ (sound u.0).unknown_way unknown in
+      let before : find_way u.0 p.ways ≡ None = k.ways u.0 ∙ ap (λ (w : Option Path). zone_train_of u.0 w (last_issued u.0 s) (counted u.0 s)) no_way in
+      zone_linked line z from number entry_m (enter_or_held (suc z) asked_room u step None) s p (p.ways ++ entered_way u asked_room step ∷ []) y l zone k
+      (λ t. entered_found line z from number u time long error speed equipped step (out.Entry (record { 0 = suc z }) u 1 ∷ []) s p t zone fresh k (sound t) (after t))
+      (record {
+        ids_are = ids_append p.ways (entered_way u asked_room step) ∙ (ap (λ (xs : List ℕ). xs ++ u.0 ∷ []) k.known ∙ sym (known_more (zone_id line) e s grants));
+        distinct = distinct_append p.ways (entered_way u asked_room step) before k.distinct;
+      })
+      (ap (λ (x : Effect). x.issued) is)
+
+  by_holder : (holder : Option ℕ) (y : Effect) → IsLineOfOneZone line → suc z ≡ zone_id line → controls (suc z) u.0 s ≡ false → Linked line s p → ((t : ℕ) → Sound line t s) → ((t : ℕ) → Sound line t (take_made (suc z) from number entry_m (enter_or_held (suc z) asked_room u step holder) ∷ s)) → y ≡ enter_or_held (suc z) asked_room u step holder → Linked line (take_made (suc z) from number entry_m (enter_or_held (suc z) asked_room u step holder) ∷ s) (zone_next p (entered_or holder (entered_way u asked_room step) p.ways) y)
+  by_holder (Some v) y l zone fresh k sound after is = refused_linked line z from number u time long error speed equipped step (Held (record { 0 = v })) s p y l zone k is
+  by_holder None y l zone fresh k sound after is = granted_linked y l zone fresh k sound after is
+
+  by_length : (long_too : Bool) (holder : Option ℕ) (y : Effect) → nat_lt asked_room long ≡ long_too → IsLineOfOneZone line → suc z ≡ zone_id line → controls (suc z) u.0 s ≡ false → Linked line s p → ((t : ℕ) → Sound line t s) → sound_by false holder → y ≡ zone_entry (suc z) false asked_room u long step holder → linked_by false holder y
+  by_length true holder y over l zone fresh k sound after is = rw over (refused_linked line z from number u time long error speed equipped step TooLong s p y l zone k (rw over at is))
+  by_length false holder y over l zone fresh k sound after is = rw over (by_holder holder y l zone fresh k sound (λ t. rw over at (after t)) (rw over at is))
+
+  by_known : (known : Bool) (holder : Option ℕ) (y : Effect) → controls (suc z) u.0 s ≡ known → IsLineOfOneZone line → suc z ≡ zone_id line → Linked line s p → ((t : ℕ) → Sound line t s) → sound_by known holder → y ≡ zone_entry (suc z) known asked_room u long step holder → linked_by known holder y
+  by_known true holder y fresh l zone k sound after is = refused_linked line z from number u time long error speed equipped step Known s p y l zone k is
+  by_known false holder y fresh l zone k sound after is = by_length (nat_lt asked_room long) holder y refl l zone fresh k sound after is
+
+  pub entry_take_linked : (y : Effect) → IsLineOfOneZone line → suc z ≡ zone_id line → Linked line s p → ((t : ℕ) → Sound line t s) → sound_by (knows (suc z) u.0 s) (holder_of line (suc z) s step.seg.0) → y ≡ zone_takes line (suc z) s entry_m → linked_by (knows (suc z) u.0 s) (holder_of line (suc z) s step.seg.0) y
+  entry_take_linked y l zone k sound after is = by_known (knows (suc z) u.0 s) (holder_of line (suc z) s step.seg.0) y refl l zone k sound after is
 
 -- an ask granted
 module _ (line : Line) (z from number : ℕ) (u : TrainId) (time : ℕ) (steps : ArrayVec DirSeg) (limit_to : ℕ) (s : Story) (p : Plain) where

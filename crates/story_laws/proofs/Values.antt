@@ -1,28 +1,31 @@
 -- What the plain state tells is what the story tells.
-use Rattle.std.proofs.Common.{◌≡◌, ℕ, zero, suc, ◌≤◌, List, [], ◌∷◌, ◌++◌, Option, Some, None, Bool, true, false, ◌&&◌, refl, sym, ◌∙◌, ap, arith, not}
+use Rattle.std.proofs.Common.{◌≡◌, ℕ, zero, suc, ◌≤◌, List, [], ◌∷◌, ◌++◌, length, Option, Some, None, Bool, true, false, ◌&&◌, refl, sym, ◌∙◌, ap, arith, not}
 use Rattle.std.proofs.lemmas.Bool.Decides.{nat_tests}
 use Rattle.std.proofs.lemmas.Bool.{eqb-true}
 use Rattle.std.specs.Prelude.{nat_eq, nat_lt, is_some}
 use Rattle.std.specs.List.{list_any}
 use Rattle.track_points.specs.declared.ids.DirSeg.{DirSeg}
 use Rattle.track_points.specs.declared.path.Path.{Path}
+use Rattle.std.proofs.Math.Path.{fun_ext}
+use Rattle.track_points.specs.Points.{Point, Cell, some_below, path_has}
 use Rattle.track_points.proofs.Some.{by_test}
 use Rattle.definitions.specs.declared.item.Item.{Item}
 use Rattle.definitions.specs.declared.item.Item.TheVariants.{Zone, Segment, Joint, Portal, Buffer}
-use Rattle.definitions.specs.Track.{Line, ranged, has_zone}
+use Rattle.definitions.specs.Track.{Line, ranged, has_zone, seg_len, owner}
 use Rattle.definitions.specs.Rules.{rule_of, is_any_zone, builds, finish_rule}
-use Rattle.definitions.specs.Premises.{any_train, is_actor}
+use Rattle.definitions.specs.Premises.{is_actor}
 use Rattle.definitions.specs.Story.{Story, sent}
+use Rattle.definitions.specs.World as tr
 use Rattle.definitions.specs.World.{Facts, facts_of, is_declared, first_entry, entered, HeldPath, entry_authority, last_number}
-use Rattle.definitions.specs.Control.{controls, knows, counted, last_issued}
-use Rattle.definitions.specs.Authority.{way}
-use Rattle.definitions.specs.Limit.{reach_from, limit}
+use Rattle.definitions.specs.Control.{controls, knows, known_trains, counted, last_issued}
+use Rattle.definitions.specs.Authority.{way, way_has, held, least_of, holder_of}
+use Rattle.definitions.specs.Limit.{reach_from, barring, limit}
 use Rattle.definitions.specs.Steps.{sender_of}
 use Rattle.definitions.specs.Safe.{IsLineOfOneZone}
 use Rattle.plain_state.specs.declared.WorldTrain.{WorldTrain}
 use Rattle.plain_state.specs.declared.ZoneTrain.{ZoneTrain}
-use Rattle.plain_state.specs.Plain.{Plain, zone_id, find_train, find_way, facts_found, entry_found, authority_found, on_found, number_found, path_found, last_found, ready_found, reach_plain, link}
-use Rattle.plain_state.specs.Admits.{no_trains}
+use Rattle.plain_state.specs.Plain.{Plain, zone_id, find_train, find_way, facts_found, entry_found, authority_found, on_found, number_found, path_found, last_found, ready_found, way_on, barring_plain, holder_plain, reach_plain, link}
+use Rattle.story_laws.proofs.Known.{ids, Distinct, any_is, least_is}
 use Rattle.story_laws.proofs.Lines.{both}
 use Rattle.story_laws.proofs.Sound.{Sound}
 use Rattle.story_laws.proofs.Grant_moves.{way_far}
@@ -58,7 +61,9 @@ pub record Linked (line : Line) (s : Story) (p : Plain) : Type 0 where
   pub ways : (t : ℕ) → find_way t p.ways ≡ zone_train line t s
   pub to_zone : p.to_zone ≡ sent 0 (zone_id line) s
   pub to_world : p.to_world ≡ sent (zone_id line) 0 s
-  pub none : no_trains p.trains ≡ not (any_train s)
+  pub count : length p.trains ≡ length (tr.trains s)
+  pub known : ids p.ways ≡ known_trains (zone_id line) s
+  pub distinct : Distinct p.ways
   pub unasked : (t : ℕ) → is_declared t s ≡ false → first_entry t s ≡ None
   pub stays_off : (t : ℕ) → is_declared t s ≡ false → entered t s ≡ false
   pub holds : (t : ℕ) → entered t s ≡ true → is_some (entry_authority t s) ≡ true
@@ -133,6 +138,10 @@ ready_of_zone : (t : ℕ) (w : Option Path) (last answered : ℕ) → (w ≡ Non
 ready_of_zone t None last answered h = refl
 ready_of_zone t (Some path) last answered h = refl
 
+abbrev id_or : ℕ → Option ZoneTrain → ℕ
+id_or t None = t
+id_or t (Some x) = x.id.0
+
 -- a train without facts is unknown to the zone
 unknown : (line : Line) (t : ℕ) (s : Story) → Sound line t s → is_declared t s ≡ false → controls (zone_id line) t s ≡ false
 unknown line t s sound h = by_test (controls (zone_id line) t s)
@@ -192,10 +201,46 @@ module _ (line : Line) (s : Story) (p : Plain) (l : IsLineOfOneZone line) (k : L
       ∙ (ready_of_zone t (way line t s) (last_issued t s) (counted t s) (λ h. let a = (sound t).counted_most in let b = (sound t).unknown_last (no_way_unknown line t s (sound t) h) in omega arith)
       ∙ ap (λ (b : Bool). b && nat_lt 0 (counted t s)) (way_is_known line t s (sound t)))
 
-  pub reach_is : (t : ℕ) (asked : List DirSeg) (to : ℕ) → reach_plain line (find_way t p.ways) asked to ≡ limit line (zone_id line) t s asked to
+  -- a way that is found is what is held for its train
+
+  held_found : (t : ℕ) (x : ZoneTrain) (point : Point) → find_way t p.ways ≡ Some x → held line (zone_id line) t s point ≡ (nat_eq (owner line point) (zone_id line) && path_has (seg_len line) x.path point)
+  held_found t x point found =
+      let known : controls (zone_id line) t s ≡ true = sym (known_is t) ∙ ap (λ (y : Option ZoneTrain). is_some y) found in
+      let is : way line t s ≡ Some x.path = sym (path_is t) ∙ ap (λ (y : Option ZoneTrain). path_found y) found in
+      rw known (ap (λ (w : Option Path). nat_eq (owner line point) (zone_id line) && way_has (seg_len line) w point) is)
+
+  found_id : (t : ℕ) (x : ZoneTrain) → find_way t p.ways ≡ Some x → x.id.0 ≡ t
+  found_id t x found = same (way line t s) (sym (k.ways t) ∙ found)
+    where
+      same : (w : Option Path) → zone_train_of t w (last_issued t s) (counted t s) ≡ Some x → x.id.0 ≡ t
+      same None e = absurd cc
+      same (Some path) e = ap (λ (y : Option ZoneTrain). id_or t y) (sym e)
+
+  pub barring_is : (t : ℕ) (point : Point) → barring_plain line (zone_id line) p.ways t point ≡ barring line (zone_id line) t s point
+  barring_is t point = by_test (nat_eq (owner line point) (zone_id line))
+      (λ own.
+      let f : ZoneTrain → Bool = λ x. not (nat_eq x.id.0 t) && path_has (seg_len line) x.path point in
+      let g : ℕ → Bool = λ u. not (nat_eq u t) && held line (zone_id line) u s point in
+      let same : list_any f p.ways ≡ list_any g (ids p.ways) = any_is f g p.ways k.distinct (λ u x found.
+      ap (λ (i : ℕ). not (nat_eq i t) && path_has (seg_len line) x.path point) (found_id u x found)
+      ∙ sym (ap (λ (b : Bool). not (nat_eq u t) && b) (held_found u x point found ∙ rw own refl))) in
+      let listed : list_any g (ids p.ways) ≡ list_any g (known_trains (zone_id line) s) = ap (λ (xs : List ℕ). list_any g xs) k.known in
+      ap (λ (b : Bool). nat_eq (owner line point) (zone_id line) && b) (same ∙ listed))
+      (λ away. rw away refl)
+
+  pub holder_is : (seg : ℕ) → holder_plain line (zone_id line) p.ways seg ≡ holder_of line (zone_id line) s seg
+  holder_is seg =
+      let g : ℕ → Bool = λ u. some_below (λ mm. held line (zone_id line) u s (Cell seg mm)) (seg_len line seg) in
+      least_is (way_on line (zone_id line) seg) g p.ways k.distinct (λ u x found.
+      ap (λ (test : ℕ → Bool). some_below test (seg_len line seg)) (fun_ext (λ mm. sym (held_found u x (Cell seg mm) found))))
+      ∙ ap (λ (xs : List ℕ). least_of g xs) k.known
+
+  pub reach_is : (t : ℕ) (asked : List DirSeg) (to : ℕ) → reach_plain line (zone_id line) p.ways t asked to ≡ limit line (zone_id line) t s asked to
   reach_is t asked to =
-      ap (λ (b : Bool). reach_from line b (path_found (find_way t p.ways)) asked to) (ready_is t)
-      ∙ ap (λ (w : Option Path). reach_from line (controls (zone_id line) t s && nat_lt 0 (counted t s)) w asked to) (path_is t)
+      let held_same : barring_plain line (zone_id line) p.ways t ≡ barring line (zone_id line) t s = fun_ext (λ point. barring_is t point) in
+      ap (λ (b : Bool). reach_from line b (path_found (find_way t p.ways)) asked to (barring_plain line (zone_id line) p.ways t)) (ready_is t)
+      ∙ (ap (λ (w : Option Path). reach_from line (controls (zone_id line) t s && nat_lt 0 (counted t s)) w asked to (barring_plain line (zone_id line) p.ways t)) (path_is t)
+      ∙ ap (λ (test : Point → Bool). reach_from line (controls (zone_id line) t s && nat_lt 0 (counted t s)) (way line t s) asked to test) held_same)
 
   -- the messages of the link between two different actors of the line
   pub link_is : (from to : ℕ) → nat_eq to from ≡ false → is_actor line to ≡ true → is_actor line from ≡ true → link p from to ≡ sent from to s

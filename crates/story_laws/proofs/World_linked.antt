@@ -1,5 +1,5 @@
 -- The plain state follows the world's events.
-use Rattle.std.proofs.Common.{◌≡◌, ℕ, List, [], ◌∷◌, ◌++◌, append-nil, Option, Some, None, Bool, true, false, ◌||◌, refl, sym, ◌∙◌, ap, subst, arith, not}
+use Rattle.std.proofs.Common.{◌≡◌, ℕ, suc, List, length, [], ◌∷◌, ◌++◌, append-nil, Option, Some, None, Bool, true, false, refl, sym, ◌∙◌, ap, subst, arith}
 use Rattle.std.proofs.lemmas.Bool.Decides.{nat_tests}
 use Rattle.std.proofs.lemmas.Bool.{eqb-true}
 use Rattle.std.specs.Prelude.{nat_eq, is_some}
@@ -13,31 +13,34 @@ use Rattle.definitions.specs.declared.event.Event.TheVariants.{Train, Entry, Ent
 use Rattle.definitions.specs.declared.message.Msg.{Msg}
 use Rattle.definitions.specs.declared.message.Msg.TheVariants as msg
 use Rattle.definitions.specs.Track.{Line}
-use Rattle.definitions.specs.Premises.{any_train, declares}
 use Rattle.definitions.specs.Story.{Entry as Made, Story, or_else, to_actor, sent, greatest_in, ever, first_told}
+use Rattle.definitions.specs.World as ts
 use Rattle.definitions.specs.World.{Facts, facts_in, facts_of, is_declared, entry_in, first_entry, entered, HeldPath, entry_authority, last_number}
 use Rattle.definitions.specs.Authority.{longest_in}
 use Rattle.definitions.specs.Steps.{Effect, nothing, sender_of, requesting, entering, made}
 use Rattle.definitions.specs.Safe.{IsLineOfOneZone}
 use Rattle.plain_state.specs.declared.WorldTrain.{WorldTrain}
 use Rattle.plain_state.specs.Plain.{Plain, zone_id, find_train, change_train, new_train, asked_at_portal, come_on, by_world as world_next}
-use Rattle.plain_state.specs.Admits.{no_trains}
 use Rattle.story_laws.proofs.Sound.{Sound}
 use Rattle.story_laws.proofs.Notions.{told_now}
 use Rattle.story_laws.proofs.Quiet.{same_told}
-use Rattle.story_laws.proofs.World_moves.{none_declared}
 use Rattle.story_laws.proofs.Values.{Linked, world_of, world_train, zone_positive, no_authority, no_number}
-use Rattle.story_laws.proofs.Links.{mapped, find_change, find_other, find_append, no_trains_change, no_trains_append, world_same, StillZone, zone_same, counted_none, last_same, entered_same, authority_same, sent_by, sent_else, undeclared_before, authority_stays, unasked_same, off_same, holds_same}
+use Rattle.story_laws.proofs.Links.{mapped, find_change, find_other, find_append, length_change, length_append, known_same, world_same, StillZone, zone_same, counted_none, last_same, entered_same, authority_same, sent_by, sent_else, undeclared_before, authority_stays, unasked_same, off_same, holds_same}
 
 zone_other : (line : Line) → IsLineOfOneZone line → nat_eq 0 (zone_id line) ≡ false
 zone_other line l = let a = zone_positive line l in grind (arith, nat_tests)
+
+-- an entry that declares no train
+pub as_many : (e : Made) (s : Story) → ts.with_train e.event (ts.trains s) ≡ ts.trains s → length (ts.trains (e ∷ s)) ≡ length (ts.trains s)
+unfolding ts.trains
+as_many e s h = ap (λ (xs : List ℕ). length xs) h
 
 -- an entry of the world, with the trains behind it
 pub record WorldMoves (line : Line) (s : Story) (e : Made) (trains : List WorldTrain) : Type 0 where
   pub by_world : e.actor ≡ 0
   pub found : (t : ℕ) → find_train t trains ≡ world_train t (e ∷ s)
   pub still : (t : ℕ) → StillZone line t e s
-  pub none : no_trains trains ≡ not (any_train (e ∷ s))
+  pub count : length trains ≡ length (ts.trains (e ∷ s))
   pub unasked : (t : ℕ) → is_declared t (e ∷ s) ≡ false → first_entry t (e ∷ s) ≡ None
   pub stays_off : (t : ℕ) → is_declared t (e ∷ s) ≡ false → entered t (e ∷ s) ≡ false
   pub holds : (t : ℕ) → entered t (e ∷ s) ≡ true → is_some (entry_authority t (e ∷ s)) ≡ true
@@ -55,7 +58,9 @@ world_linked line s p e trains x l k m is =
           ∙ (ap (λ (xs : List (ℕ × Msg)). sent 0 (zone_id line) s ++ to_actor (zone_id line) xs) is
           ∙ sym (sent_by 0 (zone_id line) e s here)));
       to_world = k.to_world ∙ sym (sent_else (zone_id line) 0 e s other);
-      none = m.none;
+      count = m.count;
+      known = k.known ∙ sym (known_same (zone_id line) e s (let a = other in rw a refl));
+      distinct = k.distinct;
       unasked = m.unasked;
       stays_off = m.stays_off;
       holds = m.holds;
@@ -73,14 +78,18 @@ train_entry u long error speed kind = made (Train u long error speed kind) 0 Non
 new_is : (t : ℕ) (u : TrainId) (long error speed : ℕ) → u.0 ≡ t → Some (new_train u long error speed) ≡ world_of t (Some (record { long = long; error = error; speed = speed })) None None false 0
 new_is t u long error speed e = ap (λ (n : ℕ). world_of n (Some (record { long = long; error = error; speed = speed })) None None false 0) e
 
-train_found : (line : Line) (t : ℕ) (u : TrainId) (long error speed : ℕ) (kind : Kind) (s : Story) (p : Plain) → any_train s ≡ false → Linked line s p → Sound line t s → find_train t (p.trains ++ new_train u long error speed ∷ []) ≡ world_train t (train_entry u long error speed kind ∷ s)
+no_facts : (f : Option Facts) → is_some f ≡ false → f ≡ None
+no_facts None h = refl
+no_facts (Some f) h = absurd cc
+
+train_found : (line : Line) (t : ℕ) (u : TrainId) (long error speed : ℕ) (kind : Kind) (s : Story) (p : Plain) → is_declared u.0 s ≡ false → Linked line s p → Sound line t s → find_train t (p.trains ++ new_train u long error speed ∷ []) ≡ world_train t (train_entry u long error speed kind ∷ s)
 train_found line t u long error speed kind s p first k sound =
     let e = train_entry u long error speed kind in
-    let none : facts_of t s ≡ None = none_declared t s first in
-    let undeclared : is_declared t s ≡ false = rw none refl in
     by_test (nat_eq u.0 t)
     (λ its.
     let same : u.0 ≡ t = eqb-true u.0 t its in
+    let undeclared : is_declared t s ≡ false = subst (λ (i : ℕ). is_declared i s ≡ false) same first in
+    let none : facts_of t s ≡ None = no_facts (facts_of t s) undeclared in
     let before : find_train t p.trains ≡ None = k.trains t ∙ ap (λ (f : Option Facts). world_of t f (first_entry t s) (sender_of (entry_authority t s)) (entered t s) (last_number t s)) none in
     let left : find_train t (p.trains ++ new_train u long error speed ∷ []) ≡ Some (new_train u long error speed) =
     find_append t p.trains (new_train u long error speed) ∙ rw (before, its) refl in
@@ -99,11 +108,11 @@ train_still : (line : Line) (t : ℕ) (u : TrainId) (long error speed : ℕ) (ki
 unfolding greatest_in longest_in
 train_still line t u long error speed kind s = record { numbers = refl; paths = λ n. refl; counts = counted_none t (train_entry u long error speed kind) s refl }
 
-pub any_now : (e : Made) (s : Story) → any_train (e ∷ s) ≡ (declares e.event || any_train s)
-unfolding ever
-any_now e s = refl
+one_more : (u : TrainId) (long error speed : ℕ) (kind : Kind) (s : Story) → length (ts.trains (train_entry u long error speed kind ∷ s)) ≡ suc (length (ts.trains s))
+unfolding ts.trains
+one_more u long error speed kind s = refl
 
-pub train_linked : (line : Line) (u : TrainId) (long error speed : ℕ) (kind : Kind) (s : Story) (p : Plain) → IsLineOfOneZone line → any_train s ≡ false → Linked line s p → ((t : ℕ) → Sound line t s) → Linked line (train_entry u long error speed kind ∷ s) (record p { trains = p.trains ++ new_train u long error speed ∷ [] })
+pub train_linked : (line : Line) (u : TrainId) (long error speed : ℕ) (kind : Kind) (s : Story) (p : Plain) → IsLineOfOneZone line → is_declared u.0 s ≡ false → Linked line s p → ((t : ℕ) → Sound line t s) → Linked line (train_entry u long error speed kind ∷ s) (record p { trains = p.trains ++ new_train u long error speed ∷ [] })
 unfolding to_actor
 train_linked line u long error speed kind s p l first k sound =
     let e = train_entry u long error speed kind in
@@ -112,7 +121,7 @@ train_linked line u long error speed kind s p l first k sound =
       by_world = refl;
       found = λ t. train_found line t u long error speed kind s p first k (sound t);
       still = λ t. train_still line t u long error speed kind s;
-      none = no_trains_append p.trains (new_train u long error speed) ∙ sym (ap (λ (b : Bool). not b) (any_now e s));
+      count = length_append p.trains (new_train u long error speed) ∙ (ap (λ (n : ℕ). suc n) k.count ∙ sym (one_more u long error speed kind s));
       unasked = λ t. unasked_same t e s refl (k.unasked t);
       stays_off = λ t. off_same t e s refl (k.stays_off t);
       holds = λ t. holds_same t e s refl (k.holds t);
@@ -166,7 +175,7 @@ entry_linked line u step zone s p x l declared k is =
       by_world = refl;
       found = λ t. entry_found_now line t u step zone (facts_of u.0 s) s p k;
       still = λ t. entry_still line t u step zone (facts_of u.0 s) s;
-      none = no_trains_change u.0 (asked_at_portal step) p.trains ∙ (k.none ∙ sym (ap (λ (b : Bool). not b) (any_now e s)));
+      count = length_change u.0 (asked_at_portal step) p.trains ∙ (k.count ∙ sym (as_many e s refl));
       unasked = λ t d. by_test (nat_eq u.0 t)
           (λ its.
           let same : u.0 ≡ t = eqb-true u.0 t its in
@@ -223,7 +232,7 @@ enter_linked line u s p x l declared some k is =
       by_world = refl;
       found = λ t. enter_found line t u a s p k;
       still = λ t. enter_still line t u a s;
-      none = no_trains_change u.0 come_on p.trains ∙ (k.none ∙ sym (ap (λ (b : Bool). not b) (any_now e s)));
+      count = length_change u.0 come_on p.trains ∙ (k.count ∙ sym (as_many e s refl));
       unasked = λ t. unasked_same t e s refl (k.unasked t);
       stays_off = λ t d. by_test (nat_eq u.0 t)
           (λ its.
@@ -253,7 +262,7 @@ ask_linked line u z steps to s p l k =
       by_world = refl;
       found = λ t. k.trains t ∙ sym (world_same t e s (record { facts = refl; entry = refl; off = refl; taken = refl }));
       still = λ t. ask_still line t u z steps to s;
-      none = k.none ∙ sym (ap (λ (b : Bool). not b) (any_now e s));
+      count = k.count ∙ sym (as_many e s refl);
       unasked = λ t. unasked_same t e s refl (k.unasked t);
       stays_off = λ t. off_same t e s refl (k.stays_off t);
       holds = λ t. holds_same t e s refl (k.holds t);

@@ -13,13 +13,12 @@ use Rattle.track_points.specs.Points.{step_eq, dir_eq}
 use Rattle.track_points.proofs.Some.{by_test}
 use Rattle.arrayvec.specs.ArrayVec.{ArrayVec}
 use Rattle.definitions.specs.declared.event.Kind.{Kind}
-use Rattle.definitions.specs.declared.event.Event.{Event}
-use Rattle.definitions.specs.declared.event.Event.TheVariants.{Train, Entry, Enter, Ask, Take}
+use Rattle.definitions.specs.declared.event.Event.TheVariants.{Train, Entry, Enter, Ask}
 use Rattle.definitions.specs.declared.message.Msg.{Msg}
 use Rattle.definitions.specs.declared.message.Msg.TheVariants as msg
 use Rattle.definitions.specs.Track.{Line, seg_len}
-use Rattle.definitions.specs.Premises.{on_line, any_train, declares, same_portal}
-use Rattle.definitions.specs.Story.{Entry as Made, Story, ever_issued, greatest_in, ever, first_told, world_took}
+use Rattle.definitions.specs.Premises.{on_line, same_portal}
+use Rattle.definitions.specs.Story.{Entry as Made, Story, ever_issued, greatest_in, first_told, world_took}
 use Rattle.definitions.specs.World.{Facts, facts_in, facts_of, is_declared, long_or_0, long_of, entry_in, first_entry, entered, HeldPath, taken_entry, entry_authority, last_number, limit_held, limit_has}
 use Rattle.definitions.specs.Control.{last_issued}
 use Rattle.definitions.specs.Authority.{longest_in}
@@ -54,19 +53,13 @@ pub and_no : (a : Bool) → (a && false) ≡ false
 and_no true = refl
 and_no false = refl
 
-pub none_declared : (t : ℕ) (s : Story) → any_train s ≡ false → facts_of t s ≡ None
-unfolding ever first_told
-none_declared t [] h = refl
-none_declared t (e ∷ s) h = by_test (declares e.event)
-    (λ y. absurd (let x : true ≡ false = rw y at h in cc))
-    (λ n. rw (none_declared t s (rw n at h)) (undeclaring t e.event n))
-  where
-    undeclaring : (t : ℕ) (e : Event) → declares e ≡ false → facts_in t e ≡ None
-    undeclaring t (Train u long error speed kind) h = absurd cc
-    undeclaring t (Entry u step) h = refl
-    undeclaring t (Enter u) h = refl
-    undeclaring t (Ask u z steps to) h = refl
-    undeclaring t (Take to from number) h = refl
+no_facts : (f : Option Facts) → is_some f ≡ false → f ≡ None
+no_facts None h = refl
+no_facts (Some f) h = absurd cc
+
+-- a train that is not declared has no facts
+pub undeclared_none : (t : ℕ) (s : Story) → is_declared t s ≡ false → facts_of t s ≡ None
+undeclared_none t s h = no_facts (facts_of t s) h
 
 abbrev pub train_made : TrainId → ℕ → ℕ → ℕ → Kind → Made
 train_made u long error speed kind = made (Train u long error speed kind) 0 None nothing
@@ -92,11 +85,12 @@ declared_now : (t : ℕ) (u : TrainId) (long error speed : ℕ) (kind : Kind) (s
 unfolding first_told
 declared_now t u long error speed kind s its none = rw (none, its) refl
 
-train_tame : (line : Line) (t : ℕ) (u : TrainId) (long error speed : ℕ) (kind : Kind) (s : Story) → nat_eq u.0 t ≡ true → any_train s ≡ false → Sound line t s → Tame line t (train_made u long error speed kind) s
+train_tame : (line : Line) (t : ℕ) (u : TrainId) (long error speed : ℕ) (kind : Kind) (s : Story) → nat_eq u.0 t ≡ true → is_declared u.0 s ≡ false → Sound line t s → Tame line t (train_made u long error speed kind) s
 unfolding greatest_in longest_in last_number limit_held
 train_tame line t u long error speed kind s its first k =
     let e = train_made u long error speed kind in
-    let none : facts_of t s ≡ None = none_declared t s first in
+    let same : u.0 ≡ t = eqb-true u.0 t its in
+    let none : facts_of t s ≡ None = undeclared_none t s (subst (λ (n : ℕ). is_declared n s ≡ false) same first) in
     let unasked : ever_issued (is_entry_ask t) s ≡ false = k.unasked (rw none refl) in
     let entry : first_entry t (e ∷ s) ≡ first_entry t s = same_told (λ (x : Made). entry_in t x.event) e s refl in
     let authority : entry_authority t (e ∷ s) ≡ entry_authority t s = same_told (λ (x : Made). taken_entry t (world_took x)) e s refl in
@@ -118,7 +112,7 @@ train_tame line t u long error speed kind s its first k =
       authority_covered = λ p c. k.authority_covered p (ap (λ (x : Option HeldPath). limit_has (seg_len line) 0 x p) (sym authority) ∙ c);
     }
 
-pub train_sound : (line : Line) (t : ℕ) (u : TrainId) (long error speed : ℕ) (kind : Kind) (s : Story) → any_train s ≡ false → Sound line t s → Sound line t (train_made u long error speed kind ∷ s)
+pub train_sound : (line : Line) (t : ℕ) (u : TrainId) (long error speed : ℕ) (kind : Kind) (s : Story) → is_declared u.0 s ≡ false → Sound line t s → Sound line t (train_made u long error speed kind ∷ s)
 train_sound line t u long error speed kind s first k = by_test (nat_eq u.0 t)
     (λ y. tame_sound line t (train_made u long error speed kind) s (train_tame line t u long error speed kind s y first k) k)
     (λ n. tame_sound line t (train_made u long error speed kind) s (quiet_tame line t (train_made u long error speed kind) s (train_quiet line t u long error speed kind s n) k) k)

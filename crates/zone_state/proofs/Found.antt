@@ -1,5 +1,5 @@
 -- The way of a train by its index.
-use Rattle.std.proofs.Common.{◌≡◌, ℕ, suc, zero, ◌+◌, ◌<◌, ◌≤◌, Bool, true, false, List, [], ◌∷◌, ◌++◌, length, get_or, Some, None, is_some, refl, sym, ap, arith, nat_eq, nat_lt}
+use Rattle.std.proofs.Common.{◌≡◌, ℕ, suc, zero, ◌+◌, ◌<◌, ◌≤◌, Bool, true, false, List, [], ◌∷◌, ◌++◌, length, get_or, Some, None, is_some, refl, sym, ap, ◌∙◌, arith, nat_eq, nat_lt}
 use Rattle.std.proofs.Math.ListN.{set}
 use Rattle.std.specs.List.{list_all, position, position_or_len}
 use Rattle.std.proofs.lemmas.Bool.Decides.{nat_tests}
@@ -35,6 +35,9 @@ changed_at t f (x ∷ xs) (suc i) d h p b =
 
 pub found : (t : ℕ) (ways : List ZoneTrain) (i : ℕ) (d : ZoneTrain) → position (is_train t) ways ≡ Some i → find_way t ways ≡ Some (get_or ways i d)
 found t ways i d h = let p = position-Some (is_train t) ways i d h in found_at t ways i d p.0 p.1 p.2
+
+pub found_is : (t : ℕ) (ways : List ZoneTrain) (i : ℕ) (x : ZoneTrain) → position (is_train t) ways ≡ Some i → x ≡ get_or ways i x → find_way t ways ≡ Some x
+found_is t ways i x h e = found t ways i x h ∙ ap Some (sym e)
 
 pub changed : (t : ℕ) (f : ZoneTrain → ZoneTrain) (ways : List ZoneTrain) (i : ℕ) (d : ZoneTrain) → position (is_train t) ways ≡ Some i
     → change_way t f ways ≡ set ways i (f (get_or ways i d))

@@ -1,3 +1,5 @@
+pub mod BySteps
+pub mod Nearest
 pub mod First
 pub mod OnSteps
 pub mod Reaches

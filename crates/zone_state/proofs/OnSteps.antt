@@ -5,7 +5,7 @@ use Rattle.track_points.specs.declared.ids.DirSeg.{DirSeg}
 use Rattle.track_points.specs.Points.{Lengths, total, place_of_last, steps_to, offset_to}
 use Rattle.track_points.proofs.Some.{by_test}
 use Rattle.definitions.specs.declared.item.Item.{Item}
-use Rattle.definitions.specs.Track.{seg_len, is_segment, has_segment}
+use Rattle.definitions.specs.Track.{seg_len, zone_of, is_segment, has_segment}
 use Rattle.definitions.specs.Limit.{last_step}
 
 pub undeclared : (line : List Item) (s : ℕ) → has_segment line s ≡ false → seg_len line s ≡ 0
@@ -15,6 +15,14 @@ undeclared (i ∷ line) s h =
     by_test (is_segment s i)
     (λ y. absurd (grind (arith, nat_tests)))
     (λ x. rw x (undeclared line s (grind (arith, nat_tests))))
+
+pub in_no_zone : (line : List Item) (s : ℕ) → has_segment line s ≡ false → zone_of line s ≡ 0
+unfolding zone_of
+in_no_zone [] s h = refl
+in_no_zone (i ∷ line) s h =
+    by_test (is_segment s i)
+    (λ y. absurd (grind (arith, nat_tests)))
+    (λ x. rw x (in_no_zone line s (grind (arith, nat_tests))))
 
 -- up to a place that is not behind the end of the first n steps there are at most n
 pub few_steps : (len : Lengths) (asked : List DirSeg) (n p : ℕ) → p ≤ total len (take n asked) → 0 < n → length (steps_to len asked p) ≤ n

@@ -1,12 +1,12 @@
 -- The first obstacle in closed form, and what a zone keeps.
-use Rattle.std.specs.Prelude.{ℕ, List, [], ◌∷◌, length, take, if◌then◌else◌, Bool, ◌&&◌, nat_eq, nat_lt, nat_le, max}
+use Rattle.std.specs.Prelude.{ℕ, List, [], ◌∷◌, ◌-◌, length, take, if◌then◌else◌, Bool, ◌&&◌, nat_eq, nat_lt, nat_le, max}
 use Rattle.track_points.specs.declared.ids.DirSeg.{DirSeg}
 use Rattle.std.specs.List.{list_all}
 use Rattle.track_points.specs.declared.path.Path.{Path}
 use Rattle.definitions.specs.Track.{Line, seg_len}
 use Rattle.track_points.specs.Points.{Lengths, total, place_of_last, end_place}
 use Rattle.definitions.specs.declared.outcome.Obstacle.{Obstacle}
-use Rattle.definitions.specs.declared.outcome.Obstacle.TheVariants.{AskEnds, TrackEnds, PathFull}
+use Rattle.definitions.specs.declared.outcome.Obstacle.TheVariants.{AskEnds, TrackEnds, Held, PathFull}
 use Rattle.definitions.specs.Limit as limits
 use Rattle.definitions.specs.Steps.{Effect, entry_path}
 use Rattle.definitions.specs.declared.outcome.Refusal.{Refusal}
@@ -27,19 +27,24 @@ pub record Zone_plain : Type 0 where
 abbrev pub nearer : ℕ → Bool → Stop → Stop → Stop
 nearer limit stands other so_far = if stands && (nat_le limit other.place && nat_lt other.place so_far.place) then other else so_far
 
--- the first of the end of the ask, the end of the track and a full path
-abbrev pub first_stop : Bool → Bool → ℕ → ℕ → ℕ → ℕ → Stop
-first_stop a b limit e t f =
-    nearer limit b (record { place = f; obstacle = PathFull }) (nearer limit a (record { place = t; obstacle = TrackEnds }) (record { place = e; obstacle = AskEnds }))
+-- the first of the end of the ask, the end of the track, a held place and a full path; `h` is the first held place, `t`
+-- the end of all steps
+abbrev pub first_stop : Bool → Bool → ℕ → ℕ → ℕ → ℕ → ℕ → Stop
+first_stop a b limit e t f h =
+    nearer limit b (record { place = f; obstacle = PathFull }) (nearer limit (nat_lt h t) (record { place = h; obstacle = Held }) (nearer limit a (record { place = t; obstacle = TrackEnds }) (record { place = e; obstacle = AskEnds })))
 
 -- the same of an asked way
-abbrev pub stop_on : Lengths → List DirSeg → ℕ → ℕ → Stop
-stop_on len asked limit to =
-    first_stop (nat_lt (len (limits.last_step asked).seg.0) to) (nat_lt 24 (length asked)) limit (max limit (place_of_last len asked to)) (total len asked) (total len (take 24 asked))
+abbrev pub stop_on : Lengths → List DirSeg → ℕ → ℕ → ℕ → Stop
+stop_on len asked limit to h =
+    first_stop (nat_lt (len (limits.last_step asked).seg.0) to) (nat_lt 24 (length asked)) limit (max limit (place_of_last len asked to)) (total len asked) (total len (take 24 asked)) h
 
 -- a reach as the definitions have it
 abbrev pub reach_value : Reach → limits.Reach
 reach_value r = record { distance = r.distance; obstacle = r.obstacle }
+
+-- the distance and the obstacle of the first stop
+abbrev pub stop_reach : ℕ → Stop → limits.Reach
+stop_reach limit stop = record { distance = stop.place - limit; obstacle = stop.obstacle }
 
 -- the path has a step, and ends on its last
 abbrev pub path_fits : Lengths → Path → Bool

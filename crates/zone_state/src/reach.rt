@@ -2,13 +2,16 @@
 ghost use Rattle.std.specs.Prelude.{◌≡◌, ◌≤◌, ◌<◌, ◌+◌, ◌*◌, length, take, Some, true, max, nat_lt};
 ghost use Rattle.track_points.specs.Points.{total, place_of_last, end_place};
 ghost use Rattle.definitions.specs.Track.{seg_len};
-ghost use Rattle.definitions.specs.Limit.{reach_on, reach_from, asked_way};
-ghost use Rattle.zone_state.specs.Zone.{nearer, stop_on, reach_value, path_fits};
+ghost use Rattle.definitions.specs.Limit.{reach_from, asked_way};
+ghost use Rattle.plain_state.specs.Plain.{barring_plain};
+ghost use Rattle.zone_state.specs.Zone.{nearer, stop_on, stop_reach, reach_value, path_fits};
 
+use crate::held::first_held;
 use crate::steps::{asked_way, continues, last_step, length_of, place_of_last, total};
 use definitions::outcome::Obstacle;
 use line_map::Line;
-use track_points::{DirSeg, Path};
+use plain_state::ZoneTrain;
+use track_points::{DirSeg, Path, TrainId};
 
 /// How far an extension reaches beyond the end of a way, in mm, and what stops it there.
 #[derive(Clone, Copy, PartialEq, Eq, Debug)]
@@ -47,13 +50,13 @@ fn first_steps(asked: &[DirSeg]) -> &[DirSeg]
     }
 }
 
-/// The first obstacle on an asked way, from the place of the limit on.
+/// The first obstacle on an asked way, from the place of the limit on, where the first held place is this one.
 #[tactic(auto, using(crate::proofs::Reaches::stop_after, crate::proofs::Reaches::stop_within))]
-fn stop_on(line: &Line, asked: &[DirSeg], limit: u64, to: u32) -> Stop
+fn stop_on(line: &Line, asked: &[DirSeg], limit: u64, to: u32, held_place: u64) -> Stop
     requires few { length asked.now ≤ 48 }
     requires some { 0 < length asked.now }
     requires near { limit ≤ total (seg_len line.now) (take 24 asked.now) }
-    ensures stop { result ≡ stop_on (seg_len line.now) asked.now limit to }
+    ensures stop { result ≡ stop_on (seg_len line.now) asked.now limit to held_place }
     ensures after { limit ≤ result.place }
     ensures within { result.place ≤ total (seg_len line.now) (take 24 asked.now) }
     ensures most { result.place ≤ 240000000 }
@@ -66,6 +69,10 @@ fn stop_on(line: &Line, asked: &[DirSeg], limit: u64, to: u32) -> Stop
         place: total(line, asked),
         obstacle: Obstacle::TrackEnds,
     };
+    let held = Stop {
+        place: held_place,
+        obstacle: Obstacle::Held,
+    };
     let path_full = Stop {
         place: total(line, first_steps(asked)),
         obstacle: Obstacle::PathFull,
@@ -75,20 +82,24 @@ fn stop_on(line: &Line, asked: &[DirSeg], limit: u64, to: u32) -> Stop
         limit,
         asked.len() > 24,
         path_full,
-        nearer(limit, beyond_track, track_ends, ask_ends),
+        nearer(
+            limit,
+            held_place < track_ends.place,
+            held,
+            nearer(limit, beyond_track, track_ends, ask_ends),
+        ),
     )
 }
 
 /// How far an ask reaches on the asked way.
-#[tactic(auto, using(crate::proofs::Reaches::reach_is))]
-fn reach_on(line: &Line, asked: &[DirSeg], limit: u64, to: u32) -> Reach
+fn reach_on(line: &Line, asked: &[DirSeg], limit: u64, to: u32, held_place: u64) -> Reach
     requires few { length asked.now ≤ 48 }
     requires some { 0 < length asked.now }
     requires near { limit ≤ total (seg_len line.now) (take 24 asked.now) }
-    ensures reach { reach_value result ≡ reach_on (seg_len line.now) asked.now limit to }
+    ensures reach { reach_value result ≡ stop_reach limit (stop_on (seg_len line.now) asked.now limit to held_place) }
     ensures within { limit + result.distance ≤ total (seg_len line.now) (take 24 asked.now) }
 {
-    let stop = stop_on(line, asked, limit, to);
+    let stop = stop_on(line, asked, limit, to, held_place);
     Reach {
         distance: (stop.place - limit) as u32,
         obstacle: stop.obstacle,
@@ -96,23 +107,29 @@ fn reach_on(line: &Line, asked: &[DirSeg], limit: u64, to: u32) -> Reach
 }
 
 /// How far an ask reaches beyond the end of a way. An ask of a train that is not ready, or that does not continue the
-/// way, is barred.
+/// way, is barred. A cell of the zone's own that lies in the way of another train is held.
 #[tactic(auto, using(crate::proofs::OnSteps::total_within))]
-pub fn reach_from(line: &Line, ready: bool, path: &Path, asked: &[DirSeg], to: u32) -> Reach
+pub fn reach_from(
+    line: &Line,
+    zone: u8,
+    ways: &[ZoneTrain],
+    train: TrainId,
+    ready: bool,
+    path: &Path,
+    asked: &[DirSeg],
+    to: u32,
+) -> Reach
     requires few { length asked.now ≤ 24 }
     requires fits { path_fits (seg_len line.now) path.now ≡ true }
-    ensures reach { reach_value result ≡ reach_from line.now ready (Some path.now) asked.now to }
+    ensures reach { reach_value result ≡ reach_from line.now ready (Some path.now) asked.now to (barring_plain line.now zone ways.now train.0) }
     ensures within { end_place (seg_len line.now) path.now + result.distance ≤ total (seg_len line.now) (take 24 (asked_way path.now.steps.items asked.now)) }
 {
     let steps = path.steps.as_slice();
     let way = asked_way(steps, asked);
     if ready && continues(line, steps, asked, way.as_slice()) {
-        reach_on(
-            line,
-            way.as_slice(),
-            place_of_last(line, steps, path.to),
-            to,
-        )
+        let limit = place_of_last(line, steps, path.to);
+        let held_place = first_held(line, zone, ways, train, way.as_slice(), limit);
+        reach_on(line, way.as_slice(), limit, to, held_place)
     } else {
         Reach {
             distance: 0,

@@ -6,9 +6,10 @@ ghost use Rattle.definitions.specs.declared.item.Item.{Item};
 ghost use Rattle.definitions.specs.Track.{seg_len};
 ghost use Rattle.definitions.specs.Limit.{asked_way};
 ghost use Rattle.definitions.specs.Steps.{zone_ask, zone_entry, deny, grant, entry_path};
-ghost use Rattle.plain_state.specs.Plain.{given, find_way, change_way, answered_by, lengthened, last_found, path_found, reach_plain, ways_asked, ways_entered, entered_way};
+ghost use Rattle.plain_state.specs.Plain.{given, find_way, change_way, answered_by, lengthened, last_found, path_found, reach_plain, holder_plain, ways_asked, ways_entered, entered_way};
 ghost use Rattle.zone_state.specs.Zone.{path_fits, way_fits, ways_fit, is_train, reach_value, way_granted, way_asked, entry_granted, refused_with};
 
+use crate::held::holder;
 use crate::reach::{Reach, reach_from};
 use crate::steps::{asked_way, last_step, length_of, offset_to, place_of_last, steps_to};
 use arrayvec::ArrayVec;
@@ -92,23 +93,50 @@ fn granted(zone: u8, train: TrainId, way: &ZoneTrain, obstacle: Obstacle) -> Giv
     }
 }
 
-/// Answers an ask of a train whose way this is.
+/// How far an ask of a train reaches.
+fn reach_of(
+    line: &Line,
+    zone: u8,
+    ways: &[ZoneTrain],
+    train: TrainId,
+    asked: &[DirSeg],
+    to: u32,
+) -> Reach
+    requires few { length asked.now ≤ 24 }
+    requires fits { ways_fit line.now ways.now ≡ true }
+    ensures reach { reach_value result ≡ reach_plain line.now zone ways.now train.0 asked.now to }
+    ensures within { IfSome (path_found (find_way train.0 ways.now)) (λ path. end_place (seg_len line.now) path + result.distance ≤ total (seg_len line.now) (take 24 (asked_way path.steps.items asked.now))) }
+{
+    match way_index(ways, train) {
+        None => Reach {
+            distance: 0,
+            obstacle: Obstacle::NotJoined,
+        },
+        Some(i) => {
+            let way = &ways[i];
+            let ready = way.answered > 0;
+            reach_from(line, zone, ways, train, ready, &way.path, asked, to)
+        }
+    }
+}
+
+/// Answers an ask of a train whose way this is, by how far it reaches.
 fn ask_way(
     line: &Line,
     zone: u8,
     way: &mut ZoneTrain,
     train: TrainId,
     asked: &[DirSeg],
-    to: u32,
+    reach: Reach,
 ) -> Given
     requires few { length asked.now ≤ 24 }
     requires room { way.old.last < 2 ^ 32 - 1 }
     requires fits { way_fits (seg_len line.now) way.old ≡ true }
-    ensures gives { given result ≡ zone_ask (seg_len line.now) zone train way.old.last (Some way.old.path) asked.now (reach_plain line.now (Some way.old) asked.now to) }
-    ensures next { way.new ≡ way_asked (seg_len line.now) asked.now (reach_plain line.now (Some way.old) asked.now to) way.old }
+    requires within { end_place (seg_len line.now) way.old.path + reach.distance ≤ total (seg_len line.now) (take 24 (asked_way way.old.path.steps.items asked.now)) }
+    ensures gives { given result ≡ zone_ask (seg_len line.now) zone train way.old.last (Some way.old.path) asked.now (reach_value reach) }
+    ensures next { way.new ≡ way_asked (seg_len line.now) asked.now (reach_value reach) way.old }
     ensures fits { way_fits (seg_len line.now) way.new ≡ true }
 {
-    let reach = reach_from(line, way.answered > 0, &way.path, asked, to);
     if reach.distance == 0 {
         return denied(zone, train, reach);
     }
@@ -128,20 +156,14 @@ pub fn ask(
     requires few { length asked.now ≤ 24 }
     requires room { last_found (find_way train.0 ways.old) < 2 ^ 32 - 1 }
     requires fits { ways_fit line.now ways.old ≡ true }
-    ensures gives { given result ≡ zone_ask (seg_len line.now) zone train (last_found (find_way train.0 ways.old)) (path_found (find_way train.0 ways.old)) asked.now (reach_plain line.now (find_way train.0 ways.old) asked.now to) }
-    ensures next { ways.new ≡ ways_asked (seg_len line.now) train.0 asked.now (reach_plain line.now (find_way train.0 ways.old) asked.now to) ways.old }
+    ensures gives { given result ≡ zone_ask (seg_len line.now) zone train (last_found (find_way train.0 ways.old)) (path_found (find_way train.0 ways.old)) asked.now (reach_plain line.now zone ways.old train.0 asked.now to) }
+    ensures next { ways.new ≡ ways_asked (seg_len line.now) train.0 asked.now (reach_plain line.now zone ways.old train.0 asked.now to) ways.old }
     ensures fits { ways_fit line.now ways.new ≡ true }
 {
+    let reach = reach_of(line, zone, ways, train, asked, to);
     match way_index(ways, train) {
-        None => denied(
-            zone,
-            train,
-            Reach {
-                distance: 0,
-                obstacle: Obstacle::NotJoined,
-            },
-        ),
-        Some(i) => ask_way(line, zone, &mut ways[i], train, asked, to),
+        None => denied(zone, train, reach),
+        Some(i) => ask_way(line, zone, &mut ways[i], train, asked, reach),
     }
 }
 
@@ -177,8 +199,8 @@ pub fn enter(
     step: DirSeg,
 ) -> Result<Given, AllocError>
     requires { ways_fit line.now ways.old.items ≡ true }
-    ensures gives { IfOk result (λ g. given g ≡ zone_entry zone (is_some (find_way train.0 ways.old.items)) (seg_len line.now step.seg.0) train train_length step) }
-    ensures next { OnOk result (ways.new.items ≡ ways_entered (is_some (find_way train.0 ways.old.items)) (seg_len line.now step.seg.0) train train_length step ways.old.items) }
+    ensures gives { IfOk result (λ g. given g ≡ zone_entry zone (is_some (find_way train.0 ways.old.items)) (seg_len line.now step.seg.0) train train_length step (holder_plain line.now zone ways.old.items step.seg.0)) }
+    ensures next { OnOk result (ways.new.items ≡ ways_entered (is_some (find_way train.0 ways.old.items)) (seg_len line.now step.seg.0) train train_length step (holder_plain line.now zone ways.old.items step.seg.0) ways.old.items) }
     ensures fits { OnOk result (ways_fit line.now ways.new.items ≡ true) }
 {
     if knows(ways.as_slice(), train) {
@@ -187,6 +209,9 @@ pub fn enter(
     let room = length_of(line, step.seg);
     if room < train_length {
         return Ok(refused(zone, train, Refusal::TooLong));
+    }
+    if let Some(other) = holder(line, zone, ways.as_slice(), step.seg) {
+        return Ok(refused(zone, train, Refusal::Held(TrainId(other))));
     }
     let first = way_at_entry(train, step, room);
     let answer = entered(zone, train, step, room);

@@ -59,7 +59,7 @@ impl Zone {
         requires room { (t : ℕ) → last_found (find_way t self.old.ways) < 2 ^ 32 - 1 }
         requires fits { ways_fit line.now self.old.ways ≡ true }
         ensures gives { IfOk result (λ g. given g ≡ zone_takes_plain line.now self.old.zone self.old.ways message.now) }
-        ensures next { OnOk result (self.new.ways ≡ ways_after line.now self.old.ways message.now) }
+        ensures next { OnOk result (self.new.ways ≡ ways_after line.now self.old.zone self.old.ways message.now) }
         ensures same { OnOk result (self.new.zone ≡ self.old.zone) }
         ensures fits { OnOk result (ways_fit line.now self.new.ways ≡ true) }
     {

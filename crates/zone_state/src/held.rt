@@ -1,0 +1,215 @@
+//! What is held for other trains: the first such place on an asked way, and who holds a segment.
+ghost use Rattle.std.specs.Prelude.{◌≡◌, ◌≤◌, ◌*◌, length};
+ghost use Rattle.track_points.specs.Points.{end_place};
+ghost use Rattle.definitions.specs.Track.{seg_len, zone_of};
+ghost use Rattle.definitions.specs.Authority.{less_of};
+ghost use Rattle.plain_state.specs.Plain.{way_on, holder_plain};
+ghost use Rattle.zone_state.specs.Held.{cells_on, first_from, first_in, near_step, near_steps, near_way, near_ways, near_on, first_held};
+
+use crate::steps::{length_of, place_of_last};
+use line_map::Line;
+use plain_state::ZoneTrain;
+use track_points::{Dir, DirSeg, SegId, TrainId};
+
+/// The cells of a segment from one mm to below another.
+#[derive(Clone, Copy)]
+pub(crate) struct Cells {
+    lo: u64,
+    hi: u64,
+}
+
+/// The zone of a segment; 0 where it is not declared.
+#[tactic(auto, using(crate::proofs::OnSteps::in_no_zone))]
+fn zone_of(line: &Line, s: SegId) -> u8
+    ensures { result ≡ zone_of line.now s.0 }
+{
+    if line.has_segment(s) {
+        line.zone_of(s).0
+    } else {
+        0
+    }
+}
+
+/// The cells that a step passes from one offset to below another, on a segment of a length.
+fn cells_on(len: u64, dir: Dir, lo: u64, hi: u64) -> Cells
+    ensures { result ≡ cells_on len dir lo hi }
+{
+    match dir {
+        Dir::Up => Cells {
+            lo,
+            hi: hi.min(len),
+        },
+        Dir::Down => Cells {
+            lo: len.saturating_sub(hi),
+            hi: len.saturating_sub(lo),
+        },
+    }
+}
+
+/// The start of a range, or the length where the range is empty.
+fn first_from(len: u64, start: u64, end: u64) -> u64
+    ensures { result ≡ first_from len start end }
+{
+    if start < end { start } else { len }
+}
+
+/// The first offset of a step, from one on, whose cell is among these; the length where there is none.
+fn first_in(len: u64, dir: Dir, cells: Cells, from: u64) -> u64
+    ensures { result ≡ first_in len dir cells from }
+{
+    match dir {
+        Dir::Up => first_from(len, from.max(cells.lo), cells.hi),
+        Dir::Down => first_from(
+            len,
+            from.max(len.saturating_sub(cells.hi)),
+            len.saturating_sub(cells.lo),
+        ),
+    }
+}
+
+/// The first offset of a step, from one on, whose cell a step of a way covers between two of its offsets.
+fn near_step(line: &Line, covering: DirSeg, lo: u64, hi: u64, step: DirSeg, from: u64) -> u64
+    ensures { result ≡ near_step (seg_len line.now) covering lo hi step from }
+{
+    let len = length_of(line, step.seg) as u64;
+    if covering.seg.0 == step.seg.0 {
+        first_in(len, step.dir, cells_on(len, covering.dir, lo, hi), from)
+    } else {
+        len
+    }
+}
+
+/// The first offset of a step, from one on, whose cell lies on some steps between two places.
+#[tactic(auto, unfolding(crate::specs::Held::near_steps))]
+fn near_steps(line: &Line, steps: &[DirSeg], lo: u64, hi: u64, step: DirSeg, from: u64) -> u64
+    ensures { result ≡ near_steps (seg_len line.now) steps.now lo hi step from }
+{
+    match steps {
+        [] => length_of(line, step.seg) as u64,
+        [first, rest @ ..] => {
+            let here = near_step(line, *first, lo, hi, step, from);
+            let len = length_of(line, first.seg) as u64;
+            let there = near_steps(
+                line,
+                rest,
+                lo.saturating_sub(len),
+                hi.saturating_sub(len),
+                step,
+                from,
+            );
+            here.min(there)
+        }
+    }
+}
+
+/// The first offset of a step, from one on, whose cell lies in a way.
+fn near_way(line: &Line, way: &ZoneTrain, step: DirSeg, from: u64) -> u64
+    ensures { result ≡ near_way (seg_len line.now) way.now step from }
+{
+    let steps = way.path.steps.as_slice();
+    let end = place_of_last(line, steps, way.path.to);
+    near_steps(line, steps, way.path.from as u64, end, step, from)
+}
+
+/// The first offset of a step, from one on, whose cell lies in the way of another train than this one.
+#[tactic(auto, unfolding(crate::specs::Held::near_ways))]
+fn near_ways(line: &Line, ways: &[ZoneTrain], train: TrainId, step: DirSeg, from: u64) -> u64
+    ensures { result ≡ near_ways (seg_len line.now) train.0 ways.now step from }
+{
+    match ways {
+        [] => length_of(line, step.seg) as u64,
+        [way, rest @ ..] => {
+            let others = near_ways(line, rest, train, step, from);
+            if way.id.0 == train.0 {
+                others
+            } else {
+                near_way(line, way, step, from).min(others)
+            }
+        }
+    }
+}
+
+/// The first offset of a step, from one on, whose cell is of the zone's own and held for another train than this one.
+fn near_on(
+    line: &Line,
+    zone: u8,
+    ways: &[ZoneTrain],
+    train: TrainId,
+    step: DirSeg,
+    from: u64,
+) -> u64
+    ensures { result ≡ near_on line.now zone ways.now train.0 step from }
+{
+    if zone_of(line, step.seg) == zone {
+        near_ways(line, ways, train, step, from)
+    } else {
+        length_of(line, step.seg) as u64
+    }
+}
+
+/// The first place of an asked way, from one on, that is held for another train than this one; the end of the way where
+/// there is none.
+#[tactic(auto, unfolding(crate::specs::Held::first_held))]
+pub fn first_held(
+    line: &Line,
+    zone: u8,
+    ways: &[ZoneTrain],
+    train: TrainId,
+    asked: &[DirSeg],
+    from: u64,
+) -> u64
+    requires { length asked.now ≤ 48 }
+    ensures held { result ≡ first_held line.now zone ways.now train.0 asked.now from }
+    ensures most { result ≤ 10000000 * length asked.now }
+{
+    match asked {
+        [] => 0,
+        [step, rest @ ..] => {
+            let len = length_of(line, step.seg) as u64;
+            let here = near_on(line, zone, ways, train, *step, from);
+            if here < len {
+                here
+            } else {
+                len + first_held(line, zone, ways, train, rest, from.saturating_sub(len))
+            }
+        }
+    }
+}
+
+/// Whether a way has a cell of a segment of the zone's own.
+fn way_on(line: &Line, zone: u8, way: &ZoneTrain, s: SegId) -> bool
+    ensures { result ≡ way_on line.now zone s.0 way.now }
+{
+    let step = DirSeg {
+        seg: s,
+        dir: Dir::Up,
+    };
+    zone_of(line, s) == zone && near_way(line, way, step, 0) < length_of(line, s) as u64
+}
+
+fn lesser(one: u16, other: Option<u16>) -> u16
+    ensures { result ≡ less_of one other }
+{
+    match other {
+        None => one,
+        Some(other) => one.min(other),
+    }
+}
+
+/// The least train for which a cell of a segment of the zone's own is held.
+#[tactic(auto, unfolding(plain_state::specs::Plain::least_way))]
+pub fn holder(line: &Line, zone: u8, ways: &[ZoneTrain], s: SegId) -> Option<u16>
+    ensures { result ≡ holder_plain line.now zone ways.now s.0 }
+{
+    match ways {
+        [] => None,
+        [way, rest @ ..] => {
+            let others = holder(line, zone, rest, s);
+            if way_on(line, zone, way, s) {
+                Some(lesser(way.id.0, others))
+            } else {
+                others
+            }
+        }
+    }
+}
