@@ -1,5 +1,6 @@
 pub mod BySteps
 pub mod Nearest
+pub mod Away
 pub mod First
 pub mod OnSteps
 pub mod Reaches

@@ -1,12 +1,12 @@
 //! What is held for other trains: the first such place on an asked way, and who holds a segment.
-ghost use Rattle.std.specs.Prelude.{◌≡◌, ◌≤◌, ◌*◌, length};
+ghost use Rattle.std.specs.Prelude.{◌≡◌, ◌≤◌, ◌*◌, length, min};
 ghost use Rattle.track_points.specs.Points.{end_place};
 ghost use Rattle.definitions.specs.Track.{seg_len, zone_of};
 ghost use Rattle.definitions.specs.Authority.{less_of};
 ghost use Rattle.plain_state.specs.Plain.{way_on, holder_plain};
 ghost use Rattle.zone_state.specs.Held.{cells_on, first_from, first_in, near_step, near_steps, near_way, near_ways, near_on, first_held};
 
-use crate::steps::{length_of, place_of_last};
+use crate::steps::{length_of, place_of_last, visits};
 use line_map::Line;
 use plain_state::ZoneTrain;
 use track_points::{Dir, DirSeg, SegId, TrainId};
@@ -111,8 +111,22 @@ fn near_way(line: &Line, way: &ZoneTrain, step: DirSeg, from: u64) -> u64
     near_steps(line, steps, way.path.from as u64, end, step, from)
 }
 
+/// The nearer of this offset and the first one whose cell lies in a way. A way that does not visit the segment is passed
+/// over.
+#[tactic(auto, using(crate::proofs::Away::way_away))]
+fn or_near_way(line: &Line, way: &ZoneTrain, step: DirSeg, from: u64, nearest: u64) -> u64
+    requires { nearest ≤ seg_len line.now step.seg.0 }
+    ensures { result ≡ min (near_way (seg_len line.now) way.now step from) nearest }
+{
+    if visits(way.path.steps.as_slice(), step.seg) {
+        near_way(line, way, step, from).min(nearest)
+    } else {
+        nearest
+    }
+}
+
 /// The first offset of a step, from one on, whose cell lies in the way of another train than this one.
-#[tactic(auto, unfolding(crate::specs::Held::near_ways))]
+#[tactic(auto, using(crate::proofs::Away::ways_within), unfolding(crate::specs::Held::near_ways))]
 fn near_ways(line: &Line, ways: &[ZoneTrain], train: TrainId, step: DirSeg, from: u64) -> u64
     ensures { result ≡ near_ways (seg_len line.now) train.0 ways.now step from }
 {
@@ -123,7 +137,7 @@ fn near_ways(line: &Line, ways: &[ZoneTrain], train: TrainId, step: DirSeg, from
             if way.id.0 == train.0 {
                 others
             } else {
-                near_way(line, way, step, from).min(others)
+                or_near_way(line, way, step, from, others)
             }
         }
     }
@@ -176,8 +190,8 @@ pub fn first_held(
     }
 }
 
-/// Whether a way has a cell of a segment of the zone's own.
-fn way_on(line: &Line, zone: u8, way: &ZoneTrain, s: SegId) -> bool
+/// Whether a way that visits a segment has a cell of it, which is of the zone's own.
+fn visited_on(line: &Line, zone: u8, way: &ZoneTrain, s: SegId) -> bool
     ensures { result ≡ way_on line.now zone s.0 way.now }
 {
     let step = DirSeg {
@@ -185,6 +199,18 @@ fn way_on(line: &Line, zone: u8, way: &ZoneTrain, s: SegId) -> bool
         dir: Dir::Up,
     };
     zone_of(line, s) == zone && near_way(line, way, step, 0) < length_of(line, s) as u64
+}
+
+/// Whether a way has a cell of a segment of the zone's own.
+#[tactic(auto, using(crate::proofs::Away::on_away))]
+fn way_on(line: &Line, zone: u8, way: &ZoneTrain, s: SegId) -> bool
+    ensures { result ≡ way_on line.now zone s.0 way.now }
+{
+    if visits(way.path.steps.as_slice(), s) {
+        visited_on(line, zone, way, s)
+    } else {
+        false
+    }
 }
 
 fn lesser(one: u16, other: Option<u16>) -> u16

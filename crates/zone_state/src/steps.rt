@@ -91,8 +91,9 @@ fn joined(line: &Line, from: DirSeg, steps: &[DirSeg]) -> bool
     }
 }
 
+/// Whether a step is on a segment.
 #[tactic(auto, unfolding(track_points::specs::Points::visits))]
-fn visits(steps: &[DirSeg], s: SegId) -> bool
+pub fn visits(steps: &[DirSeg], s: SegId) -> bool
     ensures { result ≡ visits steps.now s.0 }
 {
     match steps {

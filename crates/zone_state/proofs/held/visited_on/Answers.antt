@@ -1,5 +1,5 @@
 use Rattle.zone_state.proofs.Nearest.{way_on_own, way_on_else}
-use Rattle.zone_state.proofs.held.way_on.Goals as goal
+use Rattle.zone_state.proofs.held.visited_on.Goals as goal
 
 pub returns-then-zone_of-zone : goal.returns-then-zone_of-zone
 returns-then-zone_of-zone c =
