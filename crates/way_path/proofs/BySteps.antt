@@ -1,0 +1,116 @@
+-- The points between two places, step by step.
+use Rattle.std.proofs.Common.{◌≡◌, ℕ, suc, zero, ◌+◌, ◌-◌, ◌<◌, ◌≤◌, min, Bool, true, false, ◌&&◌, ◌||◌, List, [], ◌∷◌, length, refl, arith, nat_eq, nat_lt, nat_le}
+use Rattle.std.proofs.lemmas.Bool.Decides.{nat_tests}
+use Rattle.track_points.specs.declared.ids.Dir.{Dir}
+use Rattle.track_points.specs.declared.ids.Dir.TheVariants.{Up, Down}
+use Rattle.track_points.specs.declared.ids.DirSeg.{DirSeg}
+use Rattle.track_points.specs.declared.ids.Range.{Range}
+use Rattle.track_points.specs.Points.{Lengths, Point, Cell, Token, mm_at, is_at, cell_at, some_below, has_between}
+use Rattle.track_points.specs.Sets.{Points, held, token_in, in_range, has_cell, set_has, NeedsMoreRanges}
+use Rattle.track_points.proofs.Some.{by_test, same_bool}
+use Rattle.track_points.proofs.Places.{cell_here, cell_beyond}
+use Rattle.track_points.proofs.Between.{points_found, points_at}
+use Rattle.way_path.specs.Ways.{step_has}
+
+pub dir_twice : (len : ℕ) (d : Dir) (p : ℕ) → p < len → (mm_at len d p < len) × (mm_at len d (mm_at len d p) ≡ p)
+dir_twice len Up p h = (h, refl)
+dir_twice len Down p h = (omega arith, omega arith)
+
+-- no points on no steps
+pub points_none : (point : Point) (len : Lengths) (lo hi : ℕ) → has_between len [] lo hi point ≡ false
+unfolding some_below cell_at
+points_none point len lo zero = refl
+points_none point len lo (suc n) = rw (points_none point len lo n) (by_test (nat_le lo n) (λ y. rw y refl) (λ n. rw n refl))
+
+step_found : (len : ℕ) (w : DirSeg) (lo hi s mm p : ℕ) → lo ≤ p → p < hi → p < len → (nat_eq w.seg.0 s && nat_eq (mm_at len w.dir p) mm) ≡ true
+    → step_has len w lo hi s mm ≡ true
+step_found len w lo hi s mm p a b lt f =
+    let d = dir_twice len w.dir p lt in
+    let e : mm_at len w.dir p ≡ mm = grind (arith, nat_tests) in
+    let d0 : mm < len = rw e at d.0 in
+    let d1 : mm_at len w.dir mm ≡ p = rw e at d.1 in
+    let t1 : nat_lt mm len ≡ true = grind (arith, nat_tests) in
+    let t2 : nat_le lo p ≡ true = grind (arith, nat_tests) in
+    let t3 : nat_lt p hi ≡ true = grind (arith, nat_tests) in
+    let t4 : nat_eq w.seg.0 s ≡ true = grind arith in
+    rw (d1, t1, t2, t3, t4) refl
+
+-- the first step, and the rest
+pub cells_first : (len : Lengths) (w : DirSeg) (steps : List DirSeg) (lo hi s mm : ℕ)
+    → has_between len (w ∷ steps) lo hi (Cell s mm) ≡ (step_has (len w.seg.0) w lo hi s mm || has_between len steps (lo - len w.seg.0) (hi - len w.seg.0) (Cell s mm))
+cells_first len w steps lo hi s mm = same_bool _ _
+    (λ h. let r = points_found (Cell s mm) len (w ∷ steps) lo hi h in
+    let f = r.from in let b = r.below in
+    by_test (nat_lt r.place (len w.seg.0))
+    (λ y. let lt : r.place < len w.seg.0 = grind (arith, nat_tests) in
+    let p : (nat_eq w.seg.0 s && nat_eq (mm_at (len w.seg.0) w.dir r.place) mm) ≡ true = rw (cell_here len w steps r.place lt) at r.passing in
+    let x = step_found (len w.seg.0) w lo hi s mm r.place f b lt p in rw x refl)
+    (λ n. let ge : len w.seg.0 ≤ r.place = grind (arith, nat_tests) in
+    let p : is_at (Cell s mm) (cell_at len steps (r.place - len w.seg.0)) ≡ true = rw (cell_beyond len w steps r.place ge) at r.passing in
+    let x = points_at (Cell s mm) len steps (lo - len w.seg.0) (hi - len w.seg.0) (r.place - len w.seg.0) (omega arith) (omega arith) p in
+    grind arith))
+    (λ h. by_test (step_has (len w.seg.0) w lo hi s mm)
+    (λ y. let lt : mm < len w.seg.0 = grind (arith, nat_tests) in
+    let d = dir_twice (len w.seg.0) w.dir mm lt in
+    let t4 : nat_eq w.seg.0 s ≡ true = grind arith in
+    let t5 : nat_eq mm mm ≡ true = grind (arith, nat_tests) in
+    points_at (Cell s mm) len (w ∷ steps) lo hi (mm_at (len w.seg.0) w.dir mm) (grind (arith, nat_tests)) (grind (arith, nat_tests))
+    (rw (cell_here len w steps (mm_at (len w.seg.0) w.dir mm) d.0, d.1, t4, t5) refl))
+    (λ n. let r = points_found (Cell s mm) len steps (lo - len w.seg.0) (hi - len w.seg.0) (grind arith) in
+    let f = r.from in let b = r.below in
+    let e : len w.seg.0 + r.place - len w.seg.0 ≡ r.place = omega arith in
+    points_at (Cell s mm) len (w ∷ steps) lo hi (len w.seg.0 + r.place) (omega arith) (omega arith)
+    (rw (cell_beyond len w steps (len w.seg.0 + r.place) (omega arith), e) r.passing)))
+
+-- a set of fewer than 24 ranges has room for one more
+pub not_full : (p : Points) (r : Range) → length p.ranges < 24 → NeedsMoreRanges 24 (λ s mm. has_cell p s mm || in_range r s mm) → ⊥
+unfolding held
+not_full p r lt n = let x = n (r ∷ p.ranges) (λ s mm. grind arith) in omega arith
+
+pub mm_below : (len : ℕ) (d : Dir) (mm : ℕ) → mm < len → mm_at len d mm < len
+mm_below len Up mm h = h
+mm_below len Down mm h = omega arith
+
+-- behind the segment's end a step has nothing
+pub step_min : (len : ℕ) (step : DirSeg) (from to s mm : ℕ) → step_has len step from (min to len) s mm ≡ step_has len step from to s mm
+step_min len step from to s mm = by_test (nat_lt mm len)
+    (λ y. let b = mm_below len step.dir mm (grind (arith, nat_tests)) in
+    let e : nat_lt (mm_at len step.dir mm) (min to len) ≡ nat_lt (mm_at len step.dir mm) to = grind (arith, nat_tests) in rw e refl)
+    (λ n. rw n refl)
+
+pub step_empty : (len : ℕ) (step : DirSeg) (from to s mm : ℕ) (old : Bool) → min to len ≤ from → old ≡ (old || step_has len step from to s mm)
+step_empty len step from to s mm old h =
+    by_test (nat_lt mm len)
+    (λ y. let b = mm_below len step.dir mm (grind (arith, nat_tests)) in grind (arith, nat_tests))
+    (λ n. rw n (grind arith))
+
+-- a point of the way is no token
+token_nowhere : (len : Lengths) (steps : List DirSeg) (p w : ℕ) → is_at (Token w) (cell_at len steps p) ≡ false
+unfolding cell_at
+token_nowhere len [] p w = refl
+token_nowhere len (st ∷ steps) p w =
+    by_test (nat_lt p (len st.seg.0))
+    (λ y. rw y refl)
+    (λ n. rw n (token_nowhere len steps (p - len st.seg.0) w))
+
+pub no_token : (len : Lengths) (steps : List DirSeg) (lo hi w : ℕ) → has_between len steps lo hi (Token w) ≡ false
+no_token len steps lo hi w =
+    by_test (has_between len steps lo hi (Token w))
+    (λ y. let r = points_found (Token w) len steps lo hi y in let t = token_nowhere len steps r.place w in absurd (let p = r.passing in grind arith))
+    (λ n. n)
+
+pub no_more : (len : Lengths) (steps : List DirSeg) (lo hi s mm : ℕ) (old : Bool) → length steps < 1 → old ≡ (old || has_between len steps lo hi (Cell s mm))
+no_more len [] lo hi s mm old h = rw (points_none (Cell s mm) len lo hi) (grind arith)
+no_more len (st ∷ steps) lo hi s mm old h = absurd (omega arith)
+
+pub one_step_more : (len : Lengths) (st : DirSeg) (steps rest : List DirSeg) (lo hi n lo2 hi2 s mm : ℕ) (old mid new : Bool) → steps ≡ st ∷ rest → n ≡ len st.seg.0
+    → lo2 ≡ lo - n → hi2 ≡ hi - n → mid ≡ (old || step_has (len st.seg.0) st lo hi s mm) → new ≡ (mid || has_between len rest lo2 hi2 (Cell s mm))
+    → new ≡ (old || has_between len steps lo hi (Cell s mm))
+one_step_more len st steps rest lo hi n lo2 hi2 s mm old mid new d e l h a b =
+    rw (d, cells_first len st rest lo hi s mm, b, a, l, h, e) (grind arith)
+
+pub as_points : (p : Points) (len : Lengths) (steps : List DirSeg) (lo hi : ℕ) → p.tokens ≡ []
+    → ((s mm : ℕ) → has_cell p s mm ≡ has_between len steps lo hi (Cell s mm)) → (point : Point) → set_has p point ≡ has_between len steps lo hi point
+unfolding token_in
+as_points p len steps lo hi t h (Cell s mm) = h s mm
+as_points p len steps lo hi t h (Token w) = rw (t, no_token len steps lo hi w) refl

@@ -1,0 +1,3 @@
+pub mod OnSteps
+pub mod BySteps
+pub mod Ways

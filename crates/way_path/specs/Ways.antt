@@ -1,0 +1,151 @@
+-- Ways: what holds of one, what is asked of its places, and how it changes.
+use Rattle.std.specs.Prelude.{◌≡◌, ℕ, ℤ, pos, ◌+ℤ◌, ◌+◌, ◌-◌, ◌<◌, ◌≤◌, ◌^◌, Bool, true, false, ◌&&◌, List, [], ◌∷◌, ◌++◌, length, take, if◌then◌else◌, nat_eq, nat_lt, nat_le, Option, Some, None, Result, Ok, Err, ⊤}
+use Rattle.track_points.specs.declared.ids.DirSeg.{DirSeg}
+use Rattle.track_points.specs.declared.path.Path.{Path}
+use Rattle.track_points.specs.Points.{Lengths, mm_at, total, end_place, visits, no_segment_twice}
+use Rattle.definitions.specs.Track.{Line, seg_len, follows, joined}
+use Rattle.definitions.specs.Limit.{last_step}
+use Rattle.definitions.specs.Steps.{path_to}
+use Rattle.way_path.specs.declared.way.WayFault.{WayFault}
+use Rattle.way_path.specs.declared.way.WayFault.TheVariants.{NotJoined, Repeated, OutOfRange, Throats, Full}
+
+-- a way: the number of the journey's steps before its path, the path, and the place where it ends
+pub record PlainWay : Type 0 where
+  pub mark : ℕ
+  pub path : Path
+  pub end : ℕ
+
+-- each step follows the one before it
+abbrev pub chained : Line → List DirSeg → Bool
+chained line [] = true
+chained line (st ∷ steps) = joined line st steps
+
+abbrev pub first_len : Lengths → List DirSeg → ℕ
+first_len len [] = 0
+first_len len (st ∷ steps) = len st.seg.0
+
+-- what every way is
+pub record IsWay (way : PlainWay) : Type 0 where
+  pub some : 0 < length way.path.steps.items
+  pub once : no_segment_twice way.path.steps.items ≡ true
+  pub order : way.path.from < way.end
+  pub marks : way.mark + length way.path.steps.items < 2 ^ 32
+
+-- what holds of a way on its line: it is joined, begins on its first step, and ends on its steps
+pub record OnLine (line : Line) (way : PlainWay) : Type 0 where
+  pub joined : chained line way.path.steps.items ≡ true
+  pub first : way.path.from ≤ first_len (seg_len line) way.path.steps.items
+  pub within : way.end ≤ total (seg_len line) way.path.steps.items
+
+-- the way's end is that of its path; so it is unless the way was extended and its end not set since
+abbrev pub EndsWithPath : Lengths → PlainWay → Type 0
+EndsWithPath len way = way.end ≡ end_place len way.path
+
+-- the least index, from 0, of a step that does not follow the one before it
+pub record NotJoinedAt (line : Line) (steps : List DirSeg) (i : ℕ) : Type 0 where
+  pub there : i < length steps
+  pub before : chained line (take i steps) ≡ true
+  pub with_it : chained line (take (i + 1) steps) ≡ false
+
+-- the least index, from 0, of a step whose segment an earlier step has
+pub record RepeatedAt (steps : List DirSeg) (i : ℕ) : Type 0 where
+  pub there : i < length steps
+  pub before : no_segment_twice (take i steps) ≡ true
+  pub with_it : no_segment_twice (take (i + 1) steps) ≡ false
+
+abbrev pub FirstNotJoined : Line → List DirSeg → Option ℕ → Type 0
+FirstNotJoined line steps (Some i) = NotJoinedAt line steps i
+FirstNotJoined line steps None = chained line steps ≡ true
+
+abbrev pub FirstRepeated : List DirSeg → Option ℕ → Type 0
+FirstRepeated steps (Some i) = RepeatedAt steps i
+FirstRepeated steps None = no_segment_twice steps ≡ true
+
+-- a path has a step, its offsets are none outside the first and the last segment, and it begins before it ends
+abbrev pub path_in_range : Lengths → Path → Bool
+path_in_range len path =
+    nat_lt 0 (length path.steps.items) && (nat_le path.from (first_len len path.steps.items)
+    && (nat_le path.to (len (last_step path.steps.items).seg.0) && nat_lt path.from (end_place len path)))
+
+-- where a path in its range ends
+abbrev pub EndsAt : Lengths → Path → Option ℕ → Type 0
+EndsAt len path (Some end) = (path_in_range len path ≡ true) × (end ≡ end_place len path) × (end ≤ total len path.steps.items)
+EndsAt len path None = path_in_range len path ≡ false
+
+-- a path with its mark: the way, or the first of the faults that it has
+abbrev pub Makes : Line → ℕ → Path → Result PlainWay WayFault → Type 0
+Makes line mark path (Ok way) =
+    (chained line path.steps.items ≡ true) × (no_segment_twice path.steps.items ≡ true) × (path_in_range (seg_len line) path ≡ true)
+    × (way ≡ record { mark = mark; path = path; end = end_place (seg_len line) path })
+Makes line mark path (Err (NotJoined i)) = NotJoinedAt line path.steps.items i
+Makes line mark path (Err (Repeated i)) = (chained line path.steps.items ≡ true) × RepeatedAt path.steps.items i
+Makes line mark path (Err OutOfRange) =
+    (chained line path.steps.items ≡ true) × (no_segment_twice path.steps.items ≡ true) × (path_in_range (seg_len line) path ≡ false)
+Makes line mark path (Err Throats) = ⊥
+Makes line mark path (Err Full) = ⊥
+
+-- where a front at a place is written: on the step where its offset is 1 to the length
+pub record IsFront (len : Lengths) (steps : List DirSeg) (place : ℕ) (step : DirSeg) (off : ℕ) : Type 0 where
+  pub before : List DirSeg
+  pub beyond : List DirSeg
+  pub split : steps ≡ before ++ step ∷ beyond
+  pub place_is : place ≡ total len before + off
+  pub above : 0 < off
+  pub on : off ≤ len step.seg.0
+
+-- where a rear at a place is written: on the step where its offset is 0 to below the length
+pub record IsRear (len : Lengths) (steps : List DirSeg) (place : ℕ) (step : DirSeg) (off : ℕ) : Type 0 where
+  pub before : List DirSeg
+  pub beyond : List DirSeg
+  pub split : steps ≡ before ++ step ∷ beyond
+  pub place_is : place ≡ total len before + off
+  pub on : off < len step.seg.0
+
+-- the place of an offset on the journey's step of a mark; none where the way has no such step
+abbrev pub place_of : Lengths → PlainWay → ℕ → ℤ → Option ℤ
+place_of len way mark off =
+    if nat_le way.mark mark && nat_lt (mark - way.mark) (length way.path.steps.items)
+    then Some (pos (total len (take (mark - way.mark) way.path.steps.items)) +ℤ off)
+    else None
+
+-- a way with one more step; the end stays
+abbrev pub with_step : PlainWay → DirSeg → PlainWay
+with_step way step = record {
+  mark = way.mark;
+  path = record { steps = record { items = way.path.steps.items ++ step ∷ [] }; from = way.path.from; to = way.path.to };
+  end = way.end;
+}
+
+-- a further step: the way has it, or stays as it was and the step is refused by the first of its faults
+abbrev pub Extends : Line → PlainWay → DirSeg → Result ⊤ WayFault → PlainWay → Type 0
+Extends line old step (Ok _) new =
+    (length old.path.steps.items < 24) × (follows line (last_step old.path.steps.items) step ≡ true) × (visits old.path.steps.items step.seg.0 ≡ false)
+    × (new ≡ with_step old step)
+Extends line old step (Err Full) new = (24 ≤ length old.path.steps.items) × (new ≡ old)
+Extends line old step (Err (NotJoined i)) new =
+    (length old.path.steps.items < 24) × (follows line (last_step old.path.steps.items) step ≡ false) × (i ≡ length old.path.steps.items) × (new ≡ old)
+Extends line old step (Err (Repeated i)) new =
+    (length old.path.steps.items < 24) × (follows line (last_step old.path.steps.items) step ≡ true) × (visits old.path.steps.items step.seg.0 ≡ true)
+    × (i ≡ length old.path.steps.items) × (new ≡ old)
+Extends line old step (Err OutOfRange) new = ⊥
+Extends line old step (Err Throats) new = ⊥
+
+-- a way that ends at a place of it; the steps past the place are dropped
+abbrev pub ended_at : Lengths → PlainWay → ℕ → PlainWay
+ended_at len way place = record { mark = way.mark; path = path_to len way.path.from way.path.steps.items place; end = place }
+
+-- a way that begins at a place of it: the steps wholly before the place are dropped, and places are counted from the start
+-- of what is left
+pub record Dropped (len : Lengths) (old new : PlainWay) (place mm : ℕ) : Type 0 where
+  pub steps : List DirSeg
+  pub split : old.path.steps.items ≡ steps ++ new.path.steps.items
+  pub dropped : mm ≡ total len steps
+  pub mark : new.mark ≡ old.mark + length steps
+  pub from : new.path.from + mm ≡ place
+  pub first : new.path.from < first_len len new.path.steps.items
+  pub end : new.end + mm ≡ old.end
+  pub to : new.path.to ≡ old.path.to
+
+-- whether a step has a cell between two of its offsets
+abbrev pub step_has : ℕ → DirSeg → ℕ → ℕ → ℕ → ℕ → Bool
+step_has len w lo hi s mm = nat_eq w.seg.0 s && (nat_lt mm len && (nat_le lo (mm_at len w.dir mm) && nat_lt (mm_at len w.dir mm) hi))
