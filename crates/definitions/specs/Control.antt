@@ -1,5 +1,5 @@
--- Controller: which zone controls a train, what it granted on entry, and the numbers that count.
-use Rattle.std.specs.Prelude.{ℕ, List, ◌++◌, [], ◌∷◌, if◌then◌else◌, Bool, false, ◌&&◌, nat_eq, max, Option, Some}
+-- Controller: which zone controls a train, what it granted on entry, its Now, and the numbers that count.
+use Rattle.std.specs.Prelude.{ℕ, List, ◌++◌, [], ◌∷◌, if◌then◌else◌, Bool, false, ◌&&◌, length, nat_eq, nat_le, max, Option, Some, None}
 use Rattle.std.specs.List.{list_any}
 use Rattle.definitions.specs.declared.message.Msg.{Msg}
 use Rattle.definitions.specs.declared.message.Msg.TheVariants as msg
@@ -32,6 +32,10 @@ unfoldable pub known_trains : ℕ → Story → List ℕ
 known_trains z [] = []
 known_trains z (e ∷ s) = if grants_entry z (asker e.took) e then known_trains z s ++ asker e.took ∷ [] else known_trains z s
 
+-- a zone has room for 256 trains
+abbrev pub knows_most : ℕ → Story → Bool
+knows_most z s = nat_le 256 (length (known_trains z s))
+
 abbrev pub asked_long : Option (ℕ × Msg) → ℕ
 asked_long (Some (from, msg.EntryAsk u time long error speed equipped step)) = long
 asked_long _ = 0
@@ -40,6 +44,27 @@ asked_long _ = 0
 unfoldable pub known_long : ℕ → ℕ → Story → ℕ
 known_long z t [] = 0
 known_long z t (e ∷ s) = if grants_entry z t e then asked_long e.took else known_long z t s
+
+-- the time in a message
+abbrev pub message_time : Msg → ℕ
+message_time (msg.EntryAsk u time long error speed equipped step) = time
+message_time (msg.Ask u time steps to) = time
+message_time (msg.Answer u time number taken) = time
+message_time (msg.Auth u number mark path) = 0
+
+abbrev pub took_time : Option (ℕ × Msg) → ℕ
+took_time (Some x) = message_time x.1
+took_time None = 0
+
+-- Now: the greatest time in any message that the zone took
+unfoldable pub now_of : ℕ → Story → ℕ
+now_of z [] = 0
+now_of z (e ∷ s) = if nat_eq e.actor z then max (now_of z s) (took_time e.took) else now_of z s
+
+-- Now as the zone granted the train its entry
+unfoldable pub entered_at : ℕ → ℕ → Story → ℕ
+entered_at z t [] = 0
+entered_at z t (e ∷ s) = if grants_entry z t e then now_of z (e ∷ s) else entered_at z t s
 
 abbrev pub answer_number : ℕ → Option (ℕ × Msg) → ℕ
 answer_number t (Some (from, msg.Answer u time number taken)) = if nat_eq u.0 t then number else 0

@@ -7,7 +7,7 @@ use Rattle.track_points.specs.declared.ids.DirSeg.{DirSeg}
 use Rattle.definitions.specs.declared.outcome.Outcome.{Outcome}
 use Rattle.definitions.specs.declared.outcome.Outcome.TheVariants.{Entry, NoEntry, Grant, Deny, Answer}
 use Rattle.definitions.specs.declared.outcome.Refusal.{Refusal}
-use Rattle.definitions.specs.declared.outcome.Refusal.TheVariants.{Known, TooLong, Held}
+use Rattle.definitions.specs.declared.outcome.Refusal.TheVariants.{Known, TooMany, TooLong, Held}
 use Rattle.definitions.specs.declared.outcome.Obstacle.{Obstacle}
 use Rattle.definitions.specs.declared.outcome.Obstacle.TheVariants.{AskEnds, TrackEnds, NotJoined, PathFull}
 use Rattle.definitions.specs.declared.outcome.Obstacle.TheVariants as stops
@@ -35,6 +35,7 @@ step_field st = field st.seg.0 ++ sign st.dir
 
 abbrev pub refusal_word : Refusal → List ℕ
 refusal_word Known = codes " known\n"
+refusal_word TooMany = codes " toomany\n"
 refusal_word TooLong = codes " toolong\n"
 refusal_word (Held u) = codes " held" ++ (field u.0 ++ end_line)
 

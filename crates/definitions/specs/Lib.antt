@@ -7,6 +7,7 @@ pub mod World
 pub mod Control
 pub mod Authority
 pub mod Limit
+pub mod Ways
 pub mod Premises
 pub mod Steps
 pub mod Safe

@@ -10,7 +10,7 @@ use Rattle.definitions.specs.Track.{Line, seg_len, owner}
 use Rattle.definitions.specs.Rules.{is_line, is_any_zone}
 use Rattle.definitions.specs.Story.{Story}
 use Rattle.definitions.specs.World.{train_has, usable}
-use Rattle.definitions.specs.Control.{controls, knows, counted}
+use Rattle.definitions.specs.Control.{controls, knows, knows_most, counted}
 use Rattle.definitions.specs.Authority.{way, way_has, held, holder_of, envelope}
 use Rattle.definitions.specs.Limit.{Ask, ask_of, barring, Reach, asked_way, continues, limit, stands, obstructed, least_standing}
 use Rattle.definitions.specs.Premises.{admits}
@@ -36,13 +36,13 @@ reached len (Some path) asked distance point =
     has_between len (asked_way path.steps.items asked) (end_place len path) (end_place len path + distance) point
 
 -- a request for entry that is granted adds the portal segment
-abbrev pub portal_added : Lengths → Bool → ℕ → DirSeg → Option ℕ → Point → Bool
-portal_added len known long step holder point =
-    not known && (not (nat_lt (len step.seg.0) long) && (is_none holder && has_between len (step ∷ []) 0 (len step.seg.0) point))
+abbrev pub portal_added : Lengths → Bool → Bool → ℕ → DirSeg → Option ℕ → Point → Bool
+portal_added len known full long step holder point =
+    not known && (not full && (not (nat_lt (len step.seg.0) long) && (is_none holder && has_between len (step ∷ []) 0 (len step.seg.0) point)))
 
 abbrev pub added_by : Line → ℕ → ℕ → Story → Msg → Point → Bool
 added_by line z t s (msg.EntryAsk u time long error speed equipped step) point =
-    nat_eq u.0 t && portal_added (seg_len line) (knows z t s) long step (holder_of line z s step.seg.0) point
+    nat_eq u.0 t && portal_added (seg_len line) (knows z t s) (knows_most z s) long step (holder_of line z s step.seg.0) point
 added_by line z t s (msg.Ask u time steps to) point =
     nat_eq u.0 t && reached (seg_len line) (way line t s) steps.items (limit line z t s steps.items to).distance point
 added_by line z t s _ point = false

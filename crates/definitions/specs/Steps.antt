@@ -11,12 +11,12 @@ use Rattle.definitions.specs.declared.message.Msg.TheVariants as msg
 use Rattle.definitions.specs.declared.outcome.Outcome.{Outcome}
 use Rattle.definitions.specs.declared.outcome.Outcome.TheVariants as out
 use Rattle.definitions.specs.declared.outcome.Refusal.{Refusal}
-use Rattle.definitions.specs.declared.outcome.Refusal.TheVariants.{Known, TooLong, Held}
+use Rattle.definitions.specs.declared.outcome.Refusal.TheVariants.{Known, TooMany, TooLong, Held}
 use Rattle.definitions.specs.declared.outcome.Verdict.TheVariants.{Taken}
 use Rattle.definitions.specs.Track.{Line, seg_len, zone_of}
 use Rattle.definitions.specs.Story.{Entry as Made, Story, sent}
 use Rattle.definitions.specs.World.{Facts, facts_of, HeldPath, entry_authority, entered, last_number}
-use Rattle.definitions.specs.Control.{knows, last_issued}
+use Rattle.definitions.specs.Control.{knows, knows_most, last_issued}
 use Rattle.definitions.specs.Authority.{way, holder_of}
 use Rattle.definitions.specs.Limit.{Reach, limit, asked_way, last_step}
 
@@ -60,7 +60,7 @@ world_takes s from (msg.Auth t number mark path) = taking_auth (entered t.0 s) (
 world_takes s from _ = nothing
 
 -- Zone step. A request for entry is granted with authority 1 over the whole portal segment, unless the zone knows the
--- train, the train is too long, or a cell of the segment is held, in this order.
+-- train, it knows as many as it can, the train is too long, or a cell of the segment is held, in this order.
 
 abbrev pub entry_path : DirSeg → ℕ → Path
 entry_path step long = record { steps = record { items = step ∷ [] }; from = 0; to = long }
@@ -75,9 +75,10 @@ enter_or_held z room t step None = record {
   lines = out.Entry (record { 0 = z }) t 1 ∷ [];
 }
 
-abbrev pub zone_entry : ℕ → Bool → ℕ → TrainId → ℕ → DirSeg → Option ℕ → Effect
-zone_entry z known room t long step holder =
+abbrev pub zone_entry : ℕ → Bool → Bool → ℕ → TrainId → ℕ → DirSeg → Option ℕ → Effect
+zone_entry z known full room t long step holder =
     if known then refuse z t Known
+    else if full then refuse z t TooMany
     else if nat_lt room long then refuse z t TooLong
     else enter_or_held z room t step holder
 
@@ -102,7 +103,7 @@ zone_ask len z t last (Some path) asked reach =
     else grant len z t (last + 1) path.from (asked_way path.steps.items asked) (end_place len path + reach.distance) reach
 
 abbrev pub zone_takes : Line → ℕ → Story → Msg → Effect
-zone_takes line z s (msg.EntryAsk t time long error speed equipped step) = zone_entry z (knows z t.0 s) (seg_len line step.seg.0) t long step (holder_of line z s step.seg.0)
+zone_takes line z s (msg.EntryAsk t time long error speed equipped step) = zone_entry z (knows z t.0 s) (knows_most z s) (seg_len line step.seg.0) t long step (holder_of line z s step.seg.0)
 zone_takes line z s (msg.Ask t time steps to) =
     zone_ask (seg_len line) z t (last_issued t.0 s) (way line t.0 s) steps.items (limit line z t.0 s steps.items to)
 zone_takes line z s (msg.Answer t time number taken) = nothing

@@ -7,6 +7,8 @@ use track_points::{DirSeg, TrainId, ZoneId};
 pub enum Refusal {
     /// The zone knows the train.
     Known,
+    /// The zone knows 256 trains already.
+    TooMany,
     /// The train is longer than the portal's segment.
     TooLong,
     /// A cell of the portal's segment is held for this train, the least of those.

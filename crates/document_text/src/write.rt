@@ -143,6 +143,7 @@ fn write_refused<K: Sink>(
     let t = Number(train.0 as u64);
     match refusal {
         Refusal::Known => write_line(b"noentry", &[z, t], b" known\n", sink),
+        Refusal::TooMany => write_line(b"noentry", &[z, t], b" toomany\n", sink),
         Refusal::TooLong => write_line(b"noentry", &[z, t], b" toolong\n", sink),
         Refusal::Held(other) => {
             write_line(b"noentry", &[z, t, Held(other.0 as u64)], b"\n", sink)

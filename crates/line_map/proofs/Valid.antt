@@ -1,6 +1,6 @@
 -- What the rules give of every item of a line, and so of every segment and zone.
 use Rattle.std.proofs.Common.{◌≡◌, ℕ, ◌≤◌, ◌<◌, length, get_or, Bool, true, false, ◌&&◌, ◌||◌, if◌then◌else◌, List, [], ◌∷◌, ◌++◌, append_assoc, refl, ◌∙◌, arith, nat_eq}
-use Rattle.std.specs.List.{list_all}
+use Rattle.std.specs.List.{list_all, list_any}
 use Rattle.std.proofs.lemmas.Bool.{both_ways}
 use Rattle.std.proofs.lemmas.Bool.Decides.{nat_tests}
 use Rattle.std.proofs.lemmas.List.{append-nil}
@@ -9,7 +9,9 @@ use Rattle.std.proofs.lemmas.List.Elements.{All-get_or}
 use Rattle.std.proofs.lemmas.List.Sums.{AllPass-from_list_all}
 use Rattle.definitions.specs.declared.item.Item.{Item}
 use Rattle.definitions.specs.declared.item.Item.TheVariants.{Zone, Segment, Joint, Portal, Buffer}
-use Rattle.definitions.specs.Track.{Line, ranged, is_zone, is_segment, has_zone, has_segment, length_in, zone_in, seg_len, zone_of}
+use Rattle.track_points.specs.declared.ids.DirSeg.{DirSeg}
+use Rattle.definitions.specs.declared.item.End.{End}
+use Rattle.definitions.specs.Track.{Line, ranged, end_eq, is_portal, entrance_of, begins_at_portal, is_zone, is_segment, has_zone, has_segment, length_in, zone_in, seg_len, zone_of}
 use Rattle.definitions.specs.Rules.{rule_of, builds, is_line}
 use Rattle.line_map.specs.Next.{FitsIds}
 
@@ -185,3 +187,18 @@ ids_fit line v (Buffer a) f = tt
 pub ids_at : (line : Line) → is_line line ≡ true → (k : ℕ) (d : Item) → k < length line → FitsIds (get_or line k d)
 ids_at line v k d h =
     ids_fit line v (get_or line k d) (All-get_or (λ i. fine line i ≡ true) line k d h (AllPass-from_list_all (fine line) line (all_fine line v)))
+
+-- the segment of a portal is declared
+portal_in : (line items : Line) (e : End) → list_all (fine line) items ≡ true → list_any (is_portal e) items ≡ true → has_segment line e.segment ≡ true
+portal_in line [] e h p = absurd p
+portal_in line (Zone z ∷ items) e h p = portal_in line items e (and_right _ _ h) p
+portal_in line (Segment s z len ∷ items) e h p = portal_in line items e (and_right _ _ h) p
+portal_in line (Joint a b ∷ items) e h p = portal_in line items e (and_right _ _ h) p
+portal_in line (Buffer a ∷ items) e h p = portal_in line items e (and_right _ _ h) p
+portal_in line (Portal a ∷ items) e h p =
+    by_test (end_eq a e)
+    (λ y. let s : a.segment ≡ e.segment = grind (arith, nat_tests) in rw (← s) (and_left _ _ h))
+    (λ n. portal_in line items e (and_right _ _ h) (rw n at p))
+
+pub portal_declared : (line : Line) → is_line line ≡ true → (st : DirSeg) → begins_at_portal line st ≡ true → has_segment line st.seg.0 ≡ true
+portal_declared line h st p = portal_in line line (entrance_of st) (all_fine line h) p

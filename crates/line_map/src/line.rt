@@ -153,7 +153,8 @@ impl Line {
 
     /// Whether the step goes inward from a portal.
     pub fn begins_at_portal(&self, step: DirSeg) -> bool
-        ensures { result ≡ begins_at_portal self.now step }
+        ensures begins { result ≡ begins_at_portal self.now step }
+        ensures declared { result ≡ true → has_segment self.now step.seg.0 ≡ true }
     {
         has_portal(self.items.as_slice(), entrance_end(step))
     }

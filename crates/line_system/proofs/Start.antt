@@ -1,5 +1,5 @@
 -- The zone of a line of one zone, and what a system keeps at its start.
-use Rattle.std.proofs.Common.{◌≡◌, ℕ, zero, suc, ◌<◌, ◌≤◌, Bool, true, ◌&&◌, [], ◌∷◌, refl, arith, nat_eq, count_by, Some, None}
+use Rattle.std.proofs.Common.{◌≡◌, ℕ, zero, suc, ◌<◌, ◌≤◌, Bool, true, ◌&&◌, [], ◌∷◌, arith, nat_eq, count_by, Some, None}
 use Rattle.std.specs.List.{list_any}
 use Rattle.std.proofs.lemmas.Bool.Decides.{nat_tests}
 use Rattle.track_points.specs.declared.ids.ZoneId.{ZoneId}
@@ -8,10 +8,13 @@ use Rattle.definitions.specs.declared.item.Item.TheVariants.{Zone, Segment, Join
 use Rattle.definitions.specs.Track.{Line, has_zone}
 use Rattle.definitions.specs.Rules.{is_any_zone, is_line, builds, finish_rule}
 use Rattle.definitions.specs.Safe.{Kept}
-use Rattle.plain_state.specs.Plain.{Plain, zone_id, plain_of, plain_start, find_way}
+use Rattle.definitions.specs.Steps.{story_of}
+use Rattle.plain_state.specs.Plain.{Plain, zone_id, plain_start}
+use Rattle.zone_state.specs.Zone.{ZoneKept, IsZoneOn}
 use Rattle.line_map.specs.Order.{count_below, IsZoneAt}
 use Rattle.line_map.proofs.Valid.{zone_ok}
 use Rattle.story_laws.proofs.Lines.{zone_only}
+use Rattle.story_laws.proofs.Linking.{linked_start}
 use Rattle.line_system.specs.Kept.{IsKept}
 
 pub zone_at : (line : Line) (k : ℕ) (z : ZoneId) → IsZoneAt line k (Some z) → count_by is_any_zone line ≤ 1 → z.0 ≡ zone_id line
@@ -54,12 +57,11 @@ no_zone_at line v at =
     let some = counted (has_zone line) (zone_id line) 17 h most in
     omega arith
 
-pub starts : (line : Line) (p : Plain) → is_line line ≡ true → count_by is_any_zone line ≤ 1 → p ≡ plain_start (zone_id line) → IsKept line [] p
-unfolding plain_of Kept find_way
-starts line p v one h = record {
+pub starts : (line : Line) (p : Plain) (zone : ZoneKept) → is_line line ≡ true → count_by is_any_zone line ≤ 1 → p ≡ plain_start (zone_id line) → IsZoneOn line zone → IsKept line [] p zone
+unfolding Kept story_of
+starts line p zone v one h on = record {
   one_zone = record { valid = v; one = one };
   kept = tt;
-  linked = h;
-  fits = rw h refl;
-  few = λ t. rw h (omega arith);
+  linked = rw h (linked_start line);
+  on_line = on;
 }

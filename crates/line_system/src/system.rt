@@ -2,16 +2,15 @@
 ghost use Rattle.std.specs.Prelude.{◌≡◌, ◌<◌, ◌≤◌, ◌-◌, ◌^◌, [], true, false, count_by, length, IfOk};
 ghost use Rattle.definitions.specs.Rules.{is_line, is_any_zone};
 ghost use Rattle.definitions.specs.Premises.{built, too_many, premise_of};
-ghost use Rattle.definitions.specs.Steps.{story_of};
+ghost use Rattle.definitions.specs.Steps.{nothing, story_of};
 ghost use Rattle.plain_state.specs.Plain.{zone_id};
-ghost use Rattle.line_system.specs.State.{SpeedFits};
 ghost use Rattle.line_system.specs.History.{History};
 ghost use Rattle.line_system.specs.System.{Answers};
 
 use crate::state::State;
 use definitions::event::Event;
-use definitions::outcome::Outcome;
 use line_map::Line;
+use msg_codec::Outs;
 use std::alloc::{AllocError, Global};
 use std::marker::Model;
 use track_points::ZoneId;
@@ -47,7 +46,7 @@ impl Model for System {
 
     ghost view = { λ s. record { line = s.line; events = reverse s.events.items } };
 
-    ghost invariant = { λ s. IsKept s.line (reverse s.events.items) (plain s.state) };
+    ghost invariant = { λ s. IsKept s.line (reverse s.events.items) (plain s.state) s.state.zone };
 }
 
 /// What the system answers to an event.
@@ -59,23 +58,23 @@ pub enum Answer {
     TooMany,
     /// It breaks the premise of this number, the least of those that it breaks. The script ends.
     Premise(u8),
-    /// It goes. The system has it in its history, and this is its outcome line, if it has one.
-    Goes(System, Option<Outcome>),
+    /// It goes. The system has it in its history.
+    Goes(System),
 }
 
 impl System {
     /// A system with no event yet, of a line of at most one zone.
-    #[tactic(auto, using(crate::proofs::Start::starts))]
     pub fn start(alloc: Global, line: Line) -> Result<System, AllocError>
         requires valid { is_line line ≡ true }
         requires one { count_by is_any_zone line ≤ 1 }
         ensures { IfOk result (λ s. s ≡ record { line = line; events = [] }) }
     {
         let zone = zone_of_line(&line);
+        let state = State::new(alloc, &line, zone)?;
         Ok(System {
             line,
             events: Vec::with_capacity(alloc, 64)?,
-            state: State::new(alloc, zone),
+            state,
         })
     }
 
@@ -103,45 +102,42 @@ impl System {
     }
 
     /// The number of the least premise that an event breaks, 0 for none.
-    #[tactic(auto, using(crate::proofs::Story::premise_plain))]
     fn premise(&self, event: &Event) -> u8
         requires { built self.now.line (story_of self.now.line self.now.events) event.now ≡ true }
         ensures { result ≡ premise_of (story_of self.now.line self.now.events) event.now }
     {
-        self.state.premise(event)
+        self.state.premise(&self.line, event)
     }
 
     /// An event that goes.
-    fn go(self, event: Event) -> Result<Answer, AllocError>
-        requires few { length self.events < 2 ^ 32 - 2 }
-        requires speed { SpeedFits event }
+    fn go(self, event: Event, outs: &mut Outs) -> Result<Answer, AllocError>
+        requires few { length self.events < 2 ^ 32 - 4 }
+        requires empty { outs.old ≡ nothing }
         requires built { built self.line (story_of self.line self.events) event ≡ true }
         requires within { too_many (story_of self.line self.events) event ≡ false }
         requires kept { premise_of (story_of self.line self.events) event ≡ 0 }
-        ensures { IfOk result (λ a. Answers self event a) }
+        ensures { IfOk result (λ a. Answers self event a outs.new) }
     {
         let System {
             line,
             mut events,
             mut state,
         } = self;
-        let outcome = state.step(&line, &event)?;
+        state.step(&line, &event, outs)?;
         events.push(event)?;
-        Ok(Answer::Goes(
-            System {
-                line,
-                events,
-                state,
-            },
-            outcome,
-        ))
+        Ok(Answer::Goes(System {
+            line,
+            events,
+            state,
+        }))
     }
 
-    /// Answers an event.
-    #[tactic(auto, using(crate::proofs::Story::speed_of_built))]
-    pub fn take(self, event: Event) -> Result<Answer, AllocError>
-        requires { length self.events < 2 ^ 32 - 2 }
-        ensures { IfOk result (λ a. Answers self event a) }
+    /// Answers an event. What it gives is put into `outs`, which is empty; a refused event gives nothing. Where there is no
+    /// memory for it, the system is given up.
+    pub fn take(self, event: Event, outs: &mut Outs) -> Result<Answer, AllocError>
+        requires few { length self.events < 2 ^ 32 - 4 }
+        requires empty { outs.old ≡ nothing }
+        ensures { IfOk result (λ a. Answers self event a outs.new) }
     {
         if !self.is_built(&event) {
             return Ok(Answer::Unbuilt);
@@ -153,6 +149,6 @@ impl System {
         if premise != 0 {
             return Ok(Answer::Premise(premise));
         }
-        self.go(event)
+        self.go(event, outs)
     }
 }

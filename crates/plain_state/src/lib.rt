@@ -1,12 +1,22 @@
-//! What the world and the zone keep of a train, and what one step gives.
+//! The plain state of the world, the zone and the links between them, and what each event makes of it.
+//!
+//! The plain state is what a program keeps: lists of trains and messages. `specs/` has its steps, and the relation by
+//! which it tells what the story of events tells.
 #![tactic(auto)]
 
-use definitions::message::Msg;
-use definitions::outcome::Outcome;
-use track_points::{DirSeg, Path, TrainId};
+use track_points::{DirSeg, TrainId};
+
+/// An entry authority, as the world keeps it.
+#[derive(Clone, Copy, PartialEq, Eq, Debug)]
+pub struct EntryAuthority {
+    /// The zone that sent it.
+    pub zone: u8,
+    /// Where it ends, in mm from the start of its path, which begins at the portal.
+    pub limit: u32,
+}
 
 /// A train in the world.
-#[derive(Clone, Copy)]
+#[derive(Clone, Copy, PartialEq, Eq, Debug)]
 pub struct WorldTrain {
     pub id: TrainId,
     /// In mm.
@@ -17,29 +27,12 @@ pub struct WorldTrain {
     pub speed: u32,
     /// The step of its first request for entry.
     pub entry: Option<DirSeg>,
-    /// Who sent its entry authority.
-    pub authority: Option<u8>,
+    /// Its entry authority.
+    pub authority: Option<EntryAuthority>,
     /// It has come on.
     pub entered: bool,
-    /// Its last number; 0 before it has come on.
+    /// The limit that it holds: where its authority ends, in mm from the start of the path; 0 before it has come on.
+    pub limit: u32,
+    /// Its last number, which it answered as taken; 0 before it has come on.
     pub last: u32,
-}
-
-/// A train that the zone controls.
-#[derive(Drop)]
-pub struct ZoneTrain {
-    pub id: TrainId,
-    /// Its way: the longest path that it may hold.
-    pub path: Path,
-    /// The last number issued.
-    pub last: u32,
-    /// The greatest number counted from its answers.
-    pub answered: u32,
-}
-
-/// What a step gives: a message with its receiver, and an outcome line.
-#[derive(Drop)]
-pub struct Given {
-    pub message: Option<(u8, Msg)>,
-    pub line: Option<Outcome>,
 }

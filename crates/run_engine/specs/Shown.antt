@@ -3,10 +3,9 @@ use Rattle.std.specs.Prelude.{◌≡◌, ℕ, ◌≤◌, Bool, true, false, leng
 use Rattle.definitions.specs.declared.document.Ending.TheVariants as ends
 use Rattle.definitions.specs.Rules.{is_any_zone}
 use Rattle.definitions.specs.Trace.{Stage, Items, Script, Over, After, Reading, input_limit}
-use Rattle.plain_state.specs.Plain.{listed}
+use Rattle.definitions.specs.Steps.{Effect}
 use Rattle.run_engine.specs.declared.stage.Stage as code
 use Rattle.run_engine.specs.declared.stage.Stage.TheVariants as variants
-use Rattle.run_engine.specs.declared.stage.After as code_after
 use Rattle.run_engine.specs.declared.stage.Reading as code_reading
 
 abbrev pub stage_shown : code.Stage → Stage
@@ -14,8 +13,9 @@ stage_shown (variants.Items builder) = Items builder
 stage_shown (variants.Script system) = Script system.line system.events
 stage_shown (variants.Over ending) = Over ending
 
-abbrev pub after_shown : code_after.After → After
-after_shown x = record { stage = stage_shown x.stage; lines = listed x.line }
+-- a stage, and what led to it
+abbrev pub after_shown : code.Stage → Effect → After
+after_shown s gives = record { stage = stage_shown s; lines = gives.lines }
 
 abbrev pub reading_shown : code_reading.Reading → Reading
 reading_shown r = record { number = r.number; bytes = r.bytes; stage = stage_shown r.stage }

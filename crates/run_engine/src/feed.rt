@@ -3,7 +3,6 @@ ghost use Rattle.std.specs.Prelude.{◌≡◌, ◌+◌, ◌<◌, ◌≤◌, ◌^
 ghost use Rattle.definitions.specs.Trace.{text_read, input_limit};
 ghost use Rattle.definitions.specs.Endings.{outcomes_text};
 ghost use Rattle.byte_feed.specs.Feed.{opened, fed, feds, feds_text, fed_gives, closed};
-ghost use Rattle.plain_state.specs.Plain.{listed};
 ghost use Rattle.run_engine.specs.Shown.{reading_shown};
 ghost use Rattle.run_engine.specs.Feeding.{feed_shown, Within};
 ghost use Rattle.run_engine.specs.Does.{Does};
@@ -12,8 +11,9 @@ use crate::stage::{INPUT_LIMIT, Reading};
 use arrayvec::ArrayVec;
 use definitions::document::Ending;
 use definitions::outcome::Outcome;
-use document_text::write::{write_ending, write_outcome};
+use document_text::write::{write_ending, write_outcomes};
 use edge_io::stream::Sink;
+use msg_codec::Outs;
 use std::alloc::{AllocError, Global};
 
 /// Why a document was given up.
@@ -23,24 +23,22 @@ pub enum Fault {
     Memory,
 }
 
-/// The whole text lines so far, and the front of the one that has begun.
+/// The whole text lines so far, the front of the one that has begun, and the room for what a text line gives.
 #[derive(Drop)]
 pub struct Feed {
     reading: Reading,
     kept: ArrayVec<u8, 4097>,
     size: u64,
+    outs: Outs,
 }
 
-/// The outcome line of a text line, where it has one.
-fn write_line<K: Sink>(line: &Option<Outcome>, sink: &mut K) -> Result<(), Fault>
-    ensures { Does K.written K.faults sink.old sink.new (outcomes_text (listed line.now)) result }
+/// The outcome lines of a text line.
+fn write_lines<K: Sink>(lines: &[Outcome], sink: &mut K) -> Result<(), Fault>
+    ensures { Does K.written K.faults sink.old sink.new (outcomes_text lines.now) result }
 {
-    match line {
-        None => Ok(()),
-        Some(outcome) => match write_outcome(outcome, sink) {
-            Ok(()) => Ok(()),
-            Err(_) => Err(Fault::Write),
-        },
+    match write_outcomes(lines, sink) {
+        Ok(()) => Ok(()),
+        Err(_) => Err(Fault::Write),
     }
 }
 
@@ -64,6 +62,7 @@ impl Feed {
             reading: Reading::start(alloc)?,
             kept: ArrayVec::new(),
             size: 0,
+            outs: Outs::new(alloc)?,
         })
     }
 
@@ -83,11 +82,15 @@ impl Feed {
         ensures next { OnOk result (feed_shown self.new ≡ opened (text_read (reading_shown self.old.reading) size self.old.kept.items).next) }
         ensures within { OnOk result (Within (feed_shown self.new)) }
     {
-        match self.reading.text(alloc, size, self.kept.as_slice()) {
-            Ok(line) => {
+        self.outs.clear();
+        match self
+            .reading
+            .text(alloc, size, self.kept.as_slice(), &mut self.outs)
+        {
+            Ok(()) => {
                 self.kept.clear();
                 self.size = 0;
-                write_line(&line, sink)
+                write_lines(self.outs.lines(), sink)
             }
             Err(_) => Err(Fault::Memory),
         }

@@ -2,20 +2,19 @@
 ghost use Rattle.std.specs.Prelude.{◌≡◌, ◌+◌, ◌-◌, ◌<◌, ◌≤◌, ◌^◌, false, IfOk, OnOk, length, count_by};
 ghost use Rattle.definitions.specs.Rules.{is_any_zone, rule_of, finish_rule};
 ghost use Rattle.definitions.specs.Trace.{second_zone, item_read, script_read, event_read, stage_read, stage_ends, text_read, input_limit};
-ghost use Rattle.definitions.specs.Steps.{story_of};
+ghost use Rattle.definitions.specs.Steps.{nothing, story_of};
 ghost use Rattle.definitions.specs.Endings.{status_of};
-ghost use Rattle.plain_state.specs.Plain.{listed};
 ghost use Rattle.run_engine.specs.Faults.{Refuses};
 ghost use Rattle.run_engine.specs.Shown.{stage_shown, after_shown, reading_shown, Small, Steady};
 
 use definitions::document::{Ending, TextLine};
 use definitions::event::Event;
 use definitions::item::Item;
-use definitions::outcome::Outcome;
 use document_text::read::text_line;
 use edge_io::status::Status;
 use line_map::{LineBuilder, LineFault};
 use line_system::{Answer, System};
+use msg_codec::Outs;
 use std::alloc::{AllocError, Global};
 use std::mem;
 
@@ -28,13 +27,6 @@ pub enum Stage {
     Items(LineBuilder),
     Script(System),
     Over(Ending),
-}
-
-/// What a text line leaves, and its outcome line.
-#[derive(Drop)]
-pub struct After {
-    pub stage: Stage,
-    pub line: Option<Outcome>,
 }
 
 /// Whether an item is a zone behind another one.
@@ -82,50 +74,48 @@ fn read_script(alloc: Global, n: u64, builder: LineBuilder) -> Result<Stage, All
     }
 }
 
-/// A stage with no outcome line.
-fn quiet(stage: Stage) -> After
-    ensures { after_shown result ≡ Rattle.definitions.specs.Trace.quiet (stage_shown stage) }
+/// Text line n is an event. What it gives is put into `outs`, which is empty.
+fn read_event(n: u64, system: System, event: Event, outs: &mut Outs) -> Result<Stage, AllocError>
+    requires few { length system.events < 2 ^ 32 - 4 }
+    requires empty { outs.old ≡ nothing }
+    ensures { IfOk result (λ s. after_shown s outs.new ≡ event_read n system.line system.events (story_of system.line system.events) event) }
 {
-    After { stage, line: None }
-}
-
-/// Text line n is an event.
-fn read_event(n: u64, system: System, event: Event) -> Result<After, AllocError>
-    requires few { length system.events < 2 ^ 32 - 2 }
-    ensures { IfOk result (λ x. after_shown x ≡ event_read n system.line system.events (story_of system.line system.events) event) }
-{
-    match system.take(event)? {
-        Answer::Unbuilt => Ok(quiet(Stage::Over(Ending::Unbuilt(n)))),
-        Answer::TooMany => Ok(quiet(Stage::Over(Ending::Trains))),
-        Answer::Premise(premise) => Ok(quiet(Stage::Over(Ending::Premise(n, premise)))),
-        Answer::Goes(next, line) => Ok(After {
-            stage: Stage::Script(next),
-            line,
-        }),
+    match system.take(event, outs)? {
+        Answer::Unbuilt => Ok(Stage::Over(Ending::Unbuilt(n))),
+        Answer::TooMany => Ok(Stage::Over(Ending::Trains)),
+        Answer::Premise(premise) => Ok(Stage::Over(Ending::Premise(n, premise))),
+        Answer::Goes(next) => Ok(Stage::Script(next)),
     }
 }
 
 /// Text line n, which says this.
 #[tactic(auto, unfolding(definitions::specs::Trace::stage_read))]
-fn read(alloc: Global, n: u64, stage: Stage, says: TextLine) -> Result<After, AllocError>
+fn read(
+    alloc: Global,
+    n: u64,
+    stage: Stage,
+    says: TextLine,
+    outs: &mut Outs,
+) -> Result<Stage, AllocError>
     requires steady { Steady (n - 1) (stage_shown stage) }
     requires small { n ≤ input_limit + 1 }
-    ensures { IfOk result (λ x. after_shown x ≡ stage_read n (stage_shown stage) says) }
+    requires empty { outs.old ≡ nothing }
+    ensures { IfOk result (λ s. after_shown s outs.new ≡ stage_read n (stage_shown stage) says) }
 {
     match stage {
-        Stage::Over(ending) => Ok(quiet(Stage::Over(ending))),
+        Stage::Over(ending) => Ok(Stage::Over(ending)),
         Stage::Items(builder) => match says {
-            TextLine::Passed => Ok(quiet(Stage::Items(builder))),
-            TextLine::Item(item) => Ok(quiet(read_item(n, builder, item)?)),
-            TextLine::Script => Ok(quiet(read_script(alloc, n, builder)?)),
-            TextLine::Event(_) | TextLine::Strange => Ok(quiet(Stage::Over(Ending::Unbuilt(n)))),
+            TextLine::Passed => Ok(Stage::Items(builder)),
+            TextLine::Item(item) => read_item(n, builder, item),
+            TextLine::Script => read_script(alloc, n, builder),
+            TextLine::Event(_) | TextLine::Strange => Ok(Stage::Over(Ending::Unbuilt(n))),
         },
         Stage::Script(system) => match says {
-            TextLine::Passed => Ok(quiet(Stage::Script(system))),
-            TextLine::Event(event) => read_event(n, system, event),
-            TextLine::Item(_) | TextLine::Script | TextLine::Strange => Ok(quiet(Stage::Over(
+            TextLine::Passed => Ok(Stage::Script(system)),
+            TextLine::Event(event) => read_event(n, system, event, outs),
+            TextLine::Item(_) | TextLine::Script | TextLine::Strange => Ok(Stage::Over(
                 Ending::Unbuilt(n),
-            ))),
+            )),
         },
     }
 }
@@ -204,34 +194,37 @@ impl Reading {
         }
     }
 
-    /// One text line of so many bytes, and its outcome line. Behind want of memory the stage is spent.
+    /// One text line of so many bytes. What it gives is put into `outs`, which is empty. Behind want of memory the stage is
+    /// spent.
     #[tactic(auto, unfolding(definitions::specs::Trace::text_read))]
     pub fn text(
         &mut self,
         alloc: Global,
         size: u64,
         text: &[u8],
-    ) -> Result<Option<Outcome>, AllocError>
+        outs: &mut Outs,
+    ) -> Result<(), AllocError>
         requires small { Small (reading_shown self.old) }
         requires some { 1 ≤ size }
         requires bound { size ≤ input_limit + 1 }
-        ensures lines { IfOk result (λ line. listed line ≡ (text_read (reading_shown self.old) size text.now).lines) }
+        requires empty { outs.old ≡ nothing }
+        ensures lines { OnOk result (outs.new.lines ≡ (text_read (reading_shown self.old) size text.now).lines) }
         ensures next { OnOk result (reading_shown self.new ≡ (text_read (reading_shown self.old) size text.now).next) }
         ensures small { OnOk result (Small (reading_shown self.new)) }
     {
         if self.is_over() {
-            return Ok(None);
+            return Ok(());
         }
         if self.bytes + size > INPUT_LIMIT {
             self.stage = Stage::Over(Ending::Input);
-            return Ok(None);
+            return Ok(());
         }
         let stage = mem::replace(&mut self.stage, Stage::Over(Ending::Input));
-        let after = read(alloc, self.number + 1, stage, text_line(text))?;
+        let stage = read(alloc, self.number + 1, stage, text_line(text), outs)?;
         self.number += 1;
         self.bytes += size;
-        self.stage = after.stage;
-        Ok(after.line)
+        self.stage = stage;
+        Ok(())
     }
 
     /// How the document ends. The stage is spent.

@@ -19,7 +19,7 @@ use Rattle.definitions.specs.declared.message.Msg.TheVariants as msg
 use Rattle.definitions.specs.declared.outcome.Obstacle.TheVariants.{AskEnds, TrackEnds, Held, PathFull}
 use Rattle.definitions.specs.Track.{Line, seg_len, owner}
 use Rattle.definitions.specs.Story.{Entry as Made, Story, ever}
-use Rattle.definitions.specs.Control.{grants_entry, asks_entry, asker, known_trains, controls, knows, counted}
+use Rattle.definitions.specs.Control.{grants_entry, asks_entry, asker, known_trains, controls, knows, knows_most, counted}
 use Rattle.definitions.specs.Authority.{way, held, held_else, less_of, least_of, holder_of}
 use Rattle.definitions.specs.Limit.{asked_way, continues, passes, Ask, ask_of, stands, obstructed, reach_on, reach_from, barring, limit}
 use Rattle.definitions.specs.Steps.{effects, story_of}
@@ -174,9 +174,10 @@ stretch_free line z t u path asked to s point own other h =
 
 added_free : (line : Line) (y t u : ℕ) (s : Story) (m : Msg) (point : Point) → nat_eq (owner line point) y ≡ true → nat_eq u t ≡ false → added_by line y t s m point ≡ true → held line y u s point ≡ false
 added_free line y t u s (msg.EntryAsk v time long error speed equipped step) point own other h =
-    let a = both (nat_eq v.0 t) (portal_added (seg_len line) (knows y t s) long step (holder_of line y s step.seg.0) point) h in
+    let a = both (nat_eq v.0 t) (portal_added (seg_len line) (knows y t s) (knows_most y s) long step (holder_of line y s step.seg.0) point) h in
     let b = both (not (knows y t s)) _ a.1 in
-    let c = both (not (nat_lt (seg_len line step.seg.0) long)) _ b.1 in
+    let f = both (not (knows_most y s)) _ b.1 in
+    let c = both (not (nat_lt (seg_len line step.seg.0) long)) _ f.1 in
     let d = both (is_none (holder_of line y s step.seg.0)) (has_between (seg_len line) (step ∷ []) 0 (seg_len line step.seg.0) point) c.1 in
     portal_free line y u step s point (none_is (holder_of line y s step.seg.0) d.0) d.1
 added_free line y t u s (msg.Ask v time steps to) point own other h =

@@ -16,12 +16,12 @@ use Rattle.definitions.specs.declared.message.Msg.{Msg}
 use Rattle.definitions.specs.declared.message.Msg.TheVariants as msg
 use Rattle.definitions.specs.declared.outcome.Outcome.{Outcome}
 use Rattle.definitions.specs.declared.outcome.Outcome.TheVariants as out
-use Rattle.definitions.specs.declared.outcome.Refusal.TheVariants.{Known, TooLong, Held}
+use Rattle.definitions.specs.declared.outcome.Refusal.TheVariants.{Known, TooMany, TooLong, Held}
 use Rattle.definitions.specs.Track.{Line, ranged, seg_len, zone_of, has_zone, begins_at_portal}
 use Rattle.definitions.specs.Premises.{on_line, too_many, is_actor, built, same_portal, enters_rightly, takes_rightly, premise_of, admits}
 use Rattle.definitions.specs.Story.{Story, sent, ever_issued, greatest_in, greatest_issued, ever, first_told, by_world}
 use Rattle.definitions.specs.World.{Facts, facts_of, is_declared, first_entry, entered, HeldPath, taken_number, entry_authority, last_number, limit_held}
-use Rattle.definitions.specs.Control.{knows, counted, last_issued, answer_number}
+use Rattle.definitions.specs.Control.{knows, knows_most, counted, last_issued, answer_number}
 use Rattle.definitions.specs.Authority.{longest_in, longest, way, holder_of}
 use Rattle.definitions.specs.Limit.{asked_way, limit}
 use Rattle.definitions.specs.Steps.{Effect, nothing, entering, requesting, sender_of, entry_path, zone_ask, zone_takes, grant, path_to, made, taking, message, effects, story_of, enter_or_held, refuse}
@@ -46,9 +46,11 @@ zone_entry_sound line t z from to number k u time long error speed equipped step
     let m = msg.EntryAsk u time long error speed equipped step in
     by_test (knows (suc z) u.0 s)
     (λ y. rw y (refused_sound line t z from number m s (refuse (suc z) u Known).lines sound refl))
-    (λ fresh. by_test (nat_lt (seg_len line step.seg.0) long)
-    (λ y. rw (fresh, y) (refused_sound line t z from number m s (refuse (suc z) u TooLong).lines sound refl))
-    (λ room. rw (fresh, room) (holder_case (holder_of line (suc z) s step.seg.0) fresh room)))
+    (λ fresh. by_test (knows_most (suc z) s)
+    (λ y. rw (fresh, y) (refused_sound line t z from number m s (refuse (suc z) u TooMany).lines sound refl))
+    (λ free. by_test (nat_lt (seg_len line step.seg.0) long)
+    (λ y. rw (fresh, free, y) (refused_sound line t z from number m s (refuse (suc z) u TooLong).lines sound refl))
+    (λ room. rw (fresh, free, room) (holder_case (holder_of line (suc z) s step.seg.0) fresh room))))
   where
     holder_case : (holder : Option ℕ) → knows (suc z) u.0 s ≡ false → nat_lt (seg_len line step.seg.0) long ≡ false → Sound line t (take_made (suc z) from number (msg.EntryAsk u time long error speed equipped step) (enter_or_held (suc z) (seg_len line step.seg.0) u step holder) ∷ s)
     holder_case (Some h) fresh room = refused_sound line t z from number (msg.EntryAsk u time long error speed equipped step) s (refuse (suc z) u (Held (record { 0 = h }))).lines sound refl

@@ -15,12 +15,12 @@ use Rattle.definitions.specs.declared.message.Msg.{Msg}
 use Rattle.definitions.specs.declared.message.Msg.TheVariants as msg
 use Rattle.definitions.specs.declared.outcome.Outcome.{Outcome}
 use Rattle.definitions.specs.declared.outcome.Outcome.TheVariants as out
-use Rattle.definitions.specs.declared.outcome.Refusal.TheVariants.{Known, TooLong, Held}
+use Rattle.definitions.specs.declared.outcome.Refusal.TheVariants.{Known, TooMany, TooLong, Held}
 use Rattle.definitions.specs.Track.{Line, seg_len, zone_of, owner}
 use Rattle.definitions.specs.Premises.{is_actor}
 use Rattle.definitions.specs.Story.{Entry as Made, Story, sent, ever}
 use Rattle.definitions.specs.World.{Facts, facts_of, entry_authority}
-use Rattle.definitions.specs.Control.{grants_entry, asks_entry, controls, knows, counted, last_issued}
+use Rattle.definitions.specs.Control.{grants_entry, asks_entry, controls, knows, knows_most, counted, last_issued}
 use Rattle.definitions.specs.Authority.{longest_in, way, way_has, held, holder_of}
 use Rattle.definitions.specs.Limit.{asked_way, continues, limit, ask_of, barring}
 use Rattle.definitions.specs.Steps.{Effect, nothing, sender_of, entering, requesting, entry_path, path_to, zone_ask, zone_takes, grant, world_takes, made, taking, message, effects, story_of, enter_or_held}
@@ -29,13 +29,12 @@ use Rattle.plain_state.specs.Plain.{zone_id}
 use Rattle.way_laws.proofs.Cut.{none_between}
 use Rattle.way_laws.proofs.Reach.{reach_is}
 use Rattle.story_laws.proofs.Lines.{both}
-use Rattle.story_laws.proofs.Sound.{far, Sound}
+use Rattle.story_laws.proofs.Sound.{far, Sound, same_longest}
 use Rattle.story_laws.proofs.World_moves.{and_no, and_false}
 use Rattle.story_laws.proofs.Take_moves.{Harmless, silent_harmless, take_made, auth_harmless}
 use Rattle.story_laws.proofs.Entry_moves.{other_harmless, entry_effect, controls_now, longest_now as entry_longest}
 use Rattle.story_laws.proofs.Grant_moves.{way_far, way_controlled, grant_effect, far_now, grows, new_points, same_control}
 use Rattle.story_laws.proofs.Every.{actor_zone, Admitted, admitted, sound_step, sound_story}
-use Rattle.story_laws.proofs.Links.{longest_same}
 
 or_false : (a : Bool) → (a || false) ≡ a
 or_false true = refl
@@ -51,7 +50,7 @@ unfolding ever
 still_control line z t e s h = rw (h.grants z) refl
 
 still_way : (line : Line) (t : ℕ) (e : Made) (s : Story) → Still line t e → Sound line t s → Sound line t (e ∷ s) → way line t (e ∷ s) ≡ way line t s
-still_way line t e s h sound after = way_far line t (e ∷ s) after ∙ (longest_same line 0 t e s (h.paths 0) ∙ sym (way_far line t s sound))
+still_way line t e s h sound after = way_far line t (e ∷ s) after ∙ (same_longest (seg_len line) 0 t e s (h.paths 0) ∙ sym (way_far line t s sound))
 
 still_held : (line : Line) (z t : ℕ) (e : Made) (s : Story) (point : Point) → Still line t e → Sound line t s → Sound line t (e ∷ s) → held line z t (e ∷ s) point ≡ held line z t s point
 still_held line z t e s point h sound after =
@@ -115,10 +114,10 @@ and_left : (a b : Bool) → a ≡ true → (a && b) ≡ b
 and_left true b h = refl
 and_left false b h = absurd cc
 
-granted_entry_exact : (line : Line) (t z from number : ℕ) (u : TrainId) (time long error speed : ℕ) (equipped : Bool) (step : DirSeg) (lines : List Outcome) (s : Story) (point : Point) → suc z ≡ zone_id line → nat_eq u.0 t ≡ true → knows (suc z) t s ≡ false → nat_lt (seg_len line step.seg.0) long ≡ false → holder_of line (suc z) s step.seg.0 ≡ None → Sound line t s → Sound line t (take_made (suc z) from number (msg.EntryAsk u time long error speed equipped step) (entry_effect u (entry_path step (seg_len line step.seg.0)) lines) ∷ s)
+granted_entry_exact : (line : Line) (t z from number : ℕ) (u : TrainId) (time long error speed : ℕ) (equipped : Bool) (step : DirSeg) (lines : List Outcome) (s : Story) (point : Point) → suc z ≡ zone_id line → nat_eq u.0 t ≡ true → knows (suc z) t s ≡ false → knows_most (suc z) s ≡ false → nat_lt (seg_len line step.seg.0) long ≡ false → holder_of line (suc z) s step.seg.0 ≡ None → Sound line t s → Sound line t (take_made (suc z) from number (msg.EntryAsk u time long error speed equipped step) (entry_effect u (entry_path step (seg_len line step.seg.0)) lines) ∷ s)
     → Exact line (suc z) t (take_made (suc z) from number (msg.EntryAsk u time long error speed equipped step) (entry_effect u (entry_path step (seg_len line step.seg.0)) lines)) s point
 unfolding place_of_last
-granted_entry_exact line t z from number u time long error speed equipped step lines s point zone its fresh room free sound after =
+granted_entry_exact line t z from number u time long error speed equipped step lines s point zone its fresh few room free sound after =
     let len = seg_len line in
     let path : Path = entry_path step (len step.seg.0) in
     let e : Made = take_made (suc z) from number (msg.EntryAsk u time long error speed equipped step) (entry_effect u path lines) in
@@ -129,7 +128,7 @@ granted_entry_exact line t z from number u time long error speed equipped step l
     let same : nat_eq (suc z) (suc z) ≡ true = grind (arith, nat_tests) in
     let left : held line (suc z) t (e ∷ s) point ≡ (nat_eq (owner line point) (suc z) && path_has len path point) = rw (control, way_is) refl in
     let before : held line (suc z) t s point ≡ false = rw fresh refl in
-    left ∙ sym (rw (before, same, its, fresh, room, free) refl)
+    left ∙ sym (rw (before, same, its, fresh, few, room, free) refl)
 
 algebra : (c o a b : Bool) → c ≡ true → (c && (o && (a || b))) ≡ ((c && (o && a)) || (o && b))
 algebra true true true b h = refl
@@ -163,23 +162,23 @@ silent_exact line t z from number m x s point h sound after none =
     nothing_added line (suc z) t (take_made (suc z) from number m x) s point (harmless_still line t (suc z) from number m x s h) sound after
     (rw (none, and_no (nat_eq (suc z) (suc z))) refl)
 
--- an entry of a train that is not known and not too long, by who holds the segment
-entry_open_exact : (line : Line) (t z from number : ℕ) (u : TrainId) (time long error speed : ℕ) (equipped : Bool) (step : DirSeg) (s : Story) (point : Point) (holder : Option ℕ) → suc z ≡ zone_id line → holder_of line (suc z) s step.seg.0 ≡ holder → knows (suc z) u.0 s ≡ false → nat_lt (seg_len line step.seg.0) long ≡ false → Sound line t s
+-- an entry of a train that is not known and not too long, where the zone has room, by who holds the segment
+entry_open_exact : (line : Line) (t z from number : ℕ) (u : TrainId) (time long error speed : ℕ) (equipped : Bool) (step : DirSeg) (s : Story) (point : Point) (holder : Option ℕ) → suc z ≡ zone_id line → holder_of line (suc z) s step.seg.0 ≡ holder → knows (suc z) u.0 s ≡ false → knows_most (suc z) s ≡ false → nat_lt (seg_len line step.seg.0) long ≡ false → Sound line t s
     → Sound line t (take_made (suc z) from number (msg.EntryAsk u time long error speed equipped step) (enter_or_held (suc z) (seg_len line step.seg.0) u step holder) ∷ s)
     → Exact line (suc z) t (take_made (suc z) from number (msg.EntryAsk u time long error speed equipped step) (enter_or_held (suc z) (seg_len line step.seg.0) u step holder)) s point
-entry_open_exact line t z from number u time long error speed equipped step s point (Some h) zone is fresh room sound after =
+entry_open_exact line t z from number u time long error speed equipped step s point (Some h) zone is fresh few room sound after =
     let m = msg.EntryAsk u time long error speed equipped step in
     let lines : List Outcome = out.NoEntry (record { 0 = suc z }) u (Held (record { 0 = h })) ∷ [] in
-    let none : added_by line (suc z) t s m point ≡ false = rw (is, room, and_no (not (knows (suc z) t s)), and_no (nat_eq u.0 t)) refl in
+    let none : added_by line (suc z) t s m point ≡ false = rw (is, room, few, and_no (not (knows (suc z) t s)), and_no (nat_eq u.0 t)) refl in
     silent_exact line t z from number m (record { issued = []; lines = lines }) s point (silent_harmless line t lines s) sound after none
-entry_open_exact line t z from number u time long error speed equipped step s point None zone is fresh room sound after =
+entry_open_exact line t z from number u time long error speed equipped step s point None zone is fresh few room sound after =
     let m = msg.EntryAsk u time long error speed equipped step in
     let path : Path = entry_path step (seg_len line step.seg.0) in
     let lines : List Outcome = out.Entry (record { 0 = suc z }) u 1 ∷ [] in
     by_test (nat_eq u.0 t)
     (λ its.
     let same : u.0 ≡ t = eqb-true u.0 t its in
-    granted_entry_exact line t z from number u time long error speed equipped step lines s point zone its (subst (λ (n : ℕ). knows (suc z) n s ≡ false) same fresh) room is sound after)
+    granted_entry_exact line t z from number u time long error speed equipped step lines s point zone its (subst (λ (n : ℕ). knows (suc z) n s ≡ false) same fresh) few room is sound after)
     (λ other. silent_exact line t z from number m (entry_effect u path lines) s point (other_harmless line t u 1 0 path lines s other) sound after (rw other refl))
 
 entry_take_exact : (line : Line) (t z from number : ℕ) (u : TrainId) (time long error speed : ℕ) (equipped : Bool) (step : DirSeg) (s : Story) (point : Point) → suc z ≡ zone_id line → Sound line t s → Sound line t (take_made (suc z) from number (msg.EntryAsk u time long error speed equipped step) (zone_takes line (suc z) s (msg.EntryAsk u time long error speed equipped step)) ∷ s)
@@ -187,6 +186,7 @@ entry_take_exact : (line : Line) (t z from number : ℕ) (u : TrainId) (time lon
 entry_take_exact line t z from number u time long error speed equipped step s point zone sound after =
     let m = msg.EntryAsk u time long error speed equipped step in
     let known_line : List Outcome = out.NoEntry (record { 0 = suc z }) u Known ∷ [] in
+    let full_line : List Outcome = out.NoEntry (record { 0 = suc z }) u TooMany ∷ [] in
     let long_line : List Outcome = out.NoEntry (record { 0 = suc z }) u TooLong ∷ [] in
     let entry_line : List Outcome = out.Entry (record { 0 = suc z }) u 1 ∷ [] in
     let path : Path = entry_path step (seg_len line step.seg.0) in
@@ -198,17 +198,23 @@ entry_take_exact line t z from number u time long error speed equipped step s po
     (λ other. rw other refl) in
     let x_is : zone_takes line (suc z) s m ≡ record { issued = []; lines = known_line } = rw known refl in
     subst (λ (y : Effect). Exact line (suc z) t (take_made (suc z) from number m y) s point) (sym x_is) (silent_exact line t z from number m (record { issued = []; lines = known_line }) s point (silent_harmless line t known_line s) sound after_x none))
-    (λ fresh. by_test (nat_lt (seg_len line step.seg.0) long)
+    (λ fresh. by_test (knows_most (suc z) s)
+    (λ full.
+    let after_x : Sound line t (take_made (suc z) from number m (record { issued = []; lines = full_line }) ∷ s) = rw (fresh, full) at after in
+    let none : added_by line (suc z) t s m point ≡ false = rw (full, and_no (not (knows (suc z) t s)), and_no (nat_eq u.0 t)) refl in
+    let x_is : zone_takes line (suc z) s m ≡ record { issued = []; lines = full_line } = rw (fresh, full) refl in
+    subst (λ (y : Effect). Exact line (suc z) t (take_made (suc z) from number m y) s point) (sym x_is) (silent_exact line t z from number m (record { issued = []; lines = full_line }) s point (silent_harmless line t full_line s) sound after_x none))
+    (λ few. by_test (nat_lt (seg_len line step.seg.0) long)
     (λ too.
-    let after_x : Sound line t (take_made (suc z) from number m (record { issued = []; lines = long_line }) ∷ s) = rw (fresh, too) at after in
-    let none : added_by line (suc z) t s m point ≡ false = rw (too, and_no (not (knows (suc z) t s)), and_no (nat_eq u.0 t)) refl in
-    let x_is : zone_takes line (suc z) s m ≡ record { issued = []; lines = long_line } = rw (fresh, too) refl in
+    let after_x : Sound line t (take_made (suc z) from number m (record { issued = []; lines = long_line }) ∷ s) = rw (fresh, few, too) at after in
+    let none : added_by line (suc z) t s m point ≡ false = rw (too, few, and_no (not (knows (suc z) t s)), and_no (nat_eq u.0 t)) refl in
+    let x_is : zone_takes line (suc z) s m ≡ record { issued = []; lines = long_line } = rw (fresh, few, too) refl in
     subst (λ (y : Effect). Exact line (suc z) t (take_made (suc z) from number m y) s point) (sym x_is) (silent_exact line t z from number m (record { issued = []; lines = long_line }) s point (silent_harmless line t long_line s) sound after_x none))
     (λ room.
-    let after_x : Sound line t (take_made (suc z) from number m (enter_or_held (suc z) (seg_len line step.seg.0) u step (holder_of line (suc z) s step.seg.0)) ∷ s) = rw (fresh, room) at after in
-    let x_is : zone_takes line (suc z) s m ≡ enter_or_held (suc z) (seg_len line step.seg.0) u step (holder_of line (suc z) s step.seg.0) = rw (fresh, room) refl in
+    let after_x : Sound line t (take_made (suc z) from number m (enter_or_held (suc z) (seg_len line step.seg.0) u step (holder_of line (suc z) s step.seg.0)) ∷ s) = rw (fresh, few, room) at after in
+    let x_is : zone_takes line (suc z) s m ≡ enter_or_held (suc z) (seg_len line step.seg.0) u step (holder_of line (suc z) s step.seg.0) = rw (fresh, few, room) refl in
     subst (λ (y : Effect). Exact line (suc z) t (take_made (suc z) from number m y) s point) (sym x_is)
-    (entry_open_exact line t z from number u time long error speed equipped step s point (holder_of line (suc z) s step.seg.0) zone refl fresh room sound after_x)))
+    (entry_open_exact line t z from number u time long error speed equipped step s point (holder_of line (suc z) s step.seg.0) zone refl fresh few room sound after_x))))
 
 ask_take_exact : (line : Line) (t z from to number k : ℕ) (u : TrainId) (time : ℕ) (steps : ArrayVec DirSeg) (limit_to : ℕ) (s : Story) (point : Point) (w : Option Path) → suc z ≡ zone_id line → way line u.0 s ≡ w → Sound line t s → Sound line t (take_made (suc z) from number (msg.Ask u time steps limit_to) (zone_ask (seg_len line) (suc z) u (last_issued u.0 s) w steps.items (limit line (suc z) u.0 s steps.items limit_to)) ∷ s)
     → Exact line (suc z) t (take_made (suc z) from number (msg.Ask u time steps limit_to) (zone_ask (seg_len line) (suc z) u (last_issued u.0 s) w steps.items (limit line (suc z) u.0 s steps.items limit_to))) s point

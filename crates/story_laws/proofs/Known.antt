@@ -1,23 +1,14 @@
 -- The ways that are kept, one for each train that the zone knows.
-use Rattle.std.proofs.Common.{◌≡◌, ℕ, List, [], ◌∷◌, Some, None, Bool, true, refl, sym, ◌∙◌, subst, arith}
+use Rattle.std.proofs.Common.{◌≡◌, ℕ, suc, List, length, [], ◌∷◌, Some, None, Bool, true, refl, sym, ◌∙◌, ap, subst, arith}
 use Rattle.std.proofs.lemmas.Bool.Decides.{nat_tests}
 use Rattle.std.proofs.lemmas.Bool.{eqb-true}
 use Rattle.std.specs.Prelude.{nat_eq}
-use Rattle.std.specs.List.{list_any}
+use Rattle.std.specs.List.{list_any, list_all}
 use Rattle.track_points.proofs.Some.{by_test}
 use Rattle.definitions.specs.Authority.{least_of}
-use Rattle.plain_state.specs.declared.ZoneTrain.{ZoneTrain}
-use Rattle.plain_state.specs.Plain.{find_way, least_way}
-
--- the trains of some ways
-unfoldable pub ids : List ZoneTrain → List ℕ
-ids [] = []
-ids (x ∷ xs) = x.id.0 ∷ ids xs
-
--- no train has two ways
-unfoldable pub Distinct : List ZoneTrain → Type 0
-Distinct [] = Unit {0}
-Distinct (x ∷ xs) = (find_way x.id.0 xs ≡ None) × Distinct xs
+use Rattle.plain_state.specs.ZoneTrain.{ZoneTrain}
+use Rattle.plain_state.specs.Zone.{find_way, least_way}
+use Rattle.plain_state.specs.Relation.{ids, Distinct}
 
 found_first : (x : ZoneTrain) (xs : List ZoneTrain) → find_way x.id.0 (x ∷ xs) ≡ Some x
 unfolding find_way
@@ -47,3 +38,15 @@ least_is f g (x ∷ xs) d h =
     let here : f x ≡ g x.id.0 = h x.id.0 x (found_first x xs) in
     let rest : least_way f xs ≡ least_of g (ids xs) = least_is f g xs d.1 (λ t y e. h t y (found_behind t x y xs d.0 e)) in
     rw (here, rest) refl
+
+pub ids_length : (xs : List ZoneTrain) → length (ids xs) ≡ length xs
+unfolding ids
+ids_length [] = refl
+ids_length (x ∷ xs) = ap (λ (n : ℕ). suc n) (ids_length xs)
+
+-- a test that every way passes that is found
+pub all_found : (f : ZoneTrain → Bool) (xs : List ZoneTrain) → Distinct xs → ((t : ℕ) (x : ZoneTrain) → find_way t xs ≡ Some x → f x ≡ true) → list_all f xs ≡ true
+unfolding Distinct
+all_found f [] d h = refl
+all_found f (x ∷ xs) d h =
+    rw (h x.id.0 x (found_first x xs), all_found f xs d.1 (λ t y e. h t y (found_behind t x y xs d.0 e))) refl

@@ -1,8 +1,9 @@
 -- What a valid line of one zone tells of its segments.
 use Rattle.std.proofs.Common.{◌≡◌, ℕ, ◌+◌, ◌-◌, ◌≤◌, List, [], ◌∷◌, ◌++◌, Bool, true, false, ◌&&◌, refl, sym, ◌∙◌, ap, arith, append_assoc}
 use Rattle.std.proofs.lemmas.Bool.{eqb-true}
+use Rattle.std.proofs.lemmas.Bool.Decides.{nat_tests}
 use Rattle.std.proofs.lemmas.List.Folds.{list_any-append}
-use Rattle.std.specs.Prelude.{nat_eq, nat_lt, count_by, cond}
+use Rattle.std.specs.Prelude.{nat_eq, nat_le, nat_lt, count_by, cond}
 use Rattle.std.proofs.lemmas.List.Sums.{sum_by-cons}
 use Rattle.std.specs.List.{list_any, list_all}
 use Rattle.track_points.specs.declared.ids.DirSeg.{DirSeg}
@@ -12,7 +13,7 @@ use Rattle.track_points.proofs.Between.{points_found}
 use Rattle.definitions.specs.declared.item.End.{End}
 use Rattle.definitions.specs.declared.item.Item.{Item}
 use Rattle.definitions.specs.declared.item.Item.TheVariants.{Zone, Segment, Joint, Portal, Buffer}
-use Rattle.definitions.specs.Track.{Line, end_eq, is_zone, is_segment, is_portal, has_zone, has_segment, zone_of, owner, entrance_of, begins_at_portal}
+use Rattle.definitions.specs.Track.{Line, ranged, end_eq, is_zone, is_segment, is_portal, length_in, has_zone, has_segment, seg_len, zone_of, owner, entrance_of, begins_at_portal}
 use Rattle.definitions.specs.Rules.{rule_of, end_rule, is_any_zone, builds, finish_rule, is_line}
 use Rattle.definitions.specs.Premises.{on_line}
 use Rattle.definitions.specs.Safe.{IsLineOfOneZone}
@@ -90,6 +91,36 @@ zone_only (Buffer a ∷ line) z one h = zone_only line z (omega (arith, other_co
 
 pub zone_is : (line : Line) (s : ℕ) → IsLineOfOneZone line → has_segment line s ≡ true → zone_of line s ≡ zone_id line
 zone_is line s l h = zone_only line (zone_of line s) l.one (zone_declared line [] s (both (builds [] line) (nat_eq (finish_rule line) 0) l.valid).0 h)
+
+-- a declared segment has a length
+segment_long : (before : List Item) (s z len : ℕ) → rule_of before (Segment s z len) ≡ 0 → 1 ≤ len
+unfolding rule_of
+segment_long before s z len h = by_test (has_segment before s)
+    (λ y. absurd (let e : 2 ≡ 0 = rw y at h in cc))
+    (λ a. by_test (has_zone before z)
+    (λ b. by_test (ranged 1 32767 s && ranged 1 10000000 len)
+    (λ r. let k = both (nat_le 1 len) (nat_le len 10000000) (both (ranged 1 32767 s) (ranged 1 10000000 len) r).1 in let le = k.0 in grind (arith, nat_tests))
+    (λ r. absurd (let e : 4 ≡ 0 = rw (a, b, r) at h in cc)))
+    (λ n. absurd (let e : 3 ≡ 0 = rw (a, n) at h in cc)))
+
+item_long : (before : List Item) (i : Item) (s : ℕ) → rule_of before i ≡ 0 → is_segment s i ≡ true → 1 ≤ length_in i
+item_long before (Segment r z len) s h k = segment_long before r z len h
+item_long before (Zone y) s h k = absurd cc
+item_long before (Joint x y) s h k = absurd cc
+item_long before (Portal y) s h k = absurd cc
+item_long before (Buffer y) s h k = absurd cc
+
+long_declared : (items before : List Item) (s : ℕ) → builds before items ≡ true → has_segment items s ≡ true → 1 ≤ seg_len items s
+unfolding seg_len
+long_declared [] before s b h = absurd cc
+long_declared (i ∷ items) before s b h =
+    let k = builds_step before i items b in
+    by_test (is_segment s i)
+    (λ y. rw y (item_long before i s k.0 y))
+    (λ n. rw n (long_declared items (before ++ i ∷ []) s k.1 (rw n at h)))
+
+pub long_on_line : (line : Line) (st : DirSeg) → is_line line ≡ true → on_line line st ≡ true → 1 ≤ seg_len line st.seg.0
+long_on_line line st l h = long_declared line [] st.seg.0 (both (builds [] line) (nat_eq (finish_rule line) 0) l).0 h
 
 -- a portal's segment is declared
 end_declared : (before : List Item) (e : End) → end_rule before e 0 ≡ 0 → has_segment before e.segment ≡ true

@@ -1,26 +1,26 @@
 -- The plain state follows the story, event by event.
-use Rattle.std.proofs.Common.{◌≡◌, ℕ, suc, List, [], ◌∷◌, ◌++◌, length, Option, Some, None, Bool, true, false, refl, sym, ◌∙◌, ap, arith, max, if◌then◌else◌}
+use Rattle.std.proofs.Common.{◌≡◌, ℕ, suc, ◌+◌, ◌≤◌, List, [], ◌∷◌, ◌++◌, length, Option, Some, None, true, false, refl, sym, ◌∙◌, ap, arith, max, if◌then◌else◌}
 use Rattle.std.proofs.lemmas.Bool.Decides.{nat_tests}
 use Rattle.std.proofs.lemmas.Bool.{eqb-true}
 use Rattle.std.specs.Prelude.{nat_eq, is_some}
-use Rattle.track_points.specs.declared.ids.DirSeg.{DirSeg}
 use Rattle.track_points.specs.declared.path.Path.{Path}
 use Rattle.track_points.proofs.Some.{by_test}
 use Rattle.definitions.specs.declared.message.Msg.{Msg}
 use Rattle.definitions.specs.Track.{Line, seg_len}
 use Rattle.definitions.specs.Story.{Entry as Made, Story, or_else, to_actor, sent, greatest_in, greatest_issued, ever, first_told, world_took}
-use Rattle.definitions.specs.World.{Facts, facts_in, facts_of, is_declared, entry_in, first_entry, enters, entered, HeldPath, taken_number, taken_entry, entry_authority, auth_number, last_number}
-use Rattle.definitions.specs.Control.{controls, grants_entry, asker, known_trains, answer_number, counted, last_issued}
+use Rattle.definitions.specs.World.{facts_in, facts_of, is_declared, entry_in, first_entry, enters, entered, taken_number, taken_entry, entry_authority, auth_number, last_number, limit_held}
+use Rattle.definitions.specs.Control.{controls, grants_entry, asker, known_trains, asked_long, known_long, took_time, now_of, entered_at, answer_number, counted, last_issued}
 use Rattle.definitions.specs.Authority.{longest_in, longest, way}
-use Rattle.definitions.specs.Steps.{sender_of}
 use Rattle.definitions.specs.Safe.{IsLineOfOneZone}
 use Rattle.plain_state.specs.declared.WorldTrain.{WorldTrain}
-use Rattle.plain_state.specs.declared.ZoneTrain.{ZoneTrain}
-use Rattle.plain_state.specs.Plain.{find_train, change_train, find_way, change_way}
-use Rattle.story_laws.proofs.Known.{ids, Distinct}
-use Rattle.story_laws.proofs.Sound.{Sound}
-use Rattle.story_laws.proofs.Quiet.{same_told}
-use Rattle.story_laws.proofs.Values.{world_of, world_train, zone_train_of, zone_train, zone_positive}
+use Rattle.plain_state.specs.ZoneTrain.{ZoneTrain}
+use Rattle.plain_state.specs.World.{find_train, change_train}
+use Rattle.plain_state.specs.Zone.{find_way, change_way}
+use Rattle.plain_state.specs.Plain.{zone_id}
+use Rattle.plain_state.specs.Relation.{world_train, zone_train_of, zone_train, ids, Distinct}
+use Rattle.story_laws.proofs.Sound.{Sound, same_long}
+use Rattle.story_laws.proofs.Quiet.{same_told, same_limit}
+use Rattle.story_laws.proofs.Values.{zone_positive}
 
 -- Lists of trains.
 
@@ -157,13 +157,15 @@ no_entry_taken t took h = rw h refl
 pub authority_same : (t : ℕ) (e : Made) (s : Story) → taken_number t (world_took e) ≡ 0 → entry_authority t (e ∷ s) ≡ entry_authority t s
 authority_same t e s h = same_told (λ (x : Made). taken_entry t (world_took x)) e s (no_entry_taken t (world_took e) h)
 
-pub world_same : (t : ℕ) (e : Made) (s : Story) → StillWorld t e → world_train t (e ∷ s) ≡ world_train t s
-world_same t e s h =
-    ap (λ (f : Option Facts). world_of t f (first_entry t (e ∷ s)) (sender_of (entry_authority t (e ∷ s))) (entered t (e ∷ s)) (last_number t (e ∷ s))) (same_told (λ (x : Made). facts_in t x.event) e s h.facts)
-    ∙ (ap (λ (x : Option DirSeg). world_of t (facts_of t s) x (sender_of (entry_authority t (e ∷ s))) (entered t (e ∷ s)) (last_number t (e ∷ s))) (same_told (λ (x : Made). entry_in t x.event) e s h.entry)
-    ∙ (ap (λ (a : Option HeldPath). world_of t (facts_of t s) (first_entry t s) (sender_of a) (entered t (e ∷ s)) (last_number t (e ∷ s))) (authority_same t e s h.taken)
-    ∙ (ap (λ (b : Bool). world_of t (facts_of t s) (first_entry t s) (sender_of (entry_authority t s)) b (last_number t (e ∷ s))) (entered_same t e s h.off)
-    ∙ ap (λ (n : ℕ). world_of t (facts_of t s) (first_entry t s) (sender_of (entry_authority t s)) (entered t s) n) (last_same t e s h.off h.taken))))
+pub world_same : (line : Line) (t : ℕ) (e : Made) (s : Story) → StillWorld t e → world_train line t (e ∷ s) ≡ world_train line t s
+world_same line t e s h =
+    let facts : facts_of t (e ∷ s) ≡ facts_of t s = same_told (λ (x : Made). facts_in t x.event) e s h.facts in
+    let entry : first_entry t (e ∷ s) ≡ first_entry t s = same_told (λ (x : Made). entry_in t x.event) e s h.entry in
+    let authority : entry_authority t (e ∷ s) ≡ entry_authority t s = authority_same t e s h.taken in
+    let on : entered t (e ∷ s) ≡ entered t s = entered_same t e s h.off in
+    let limit : limit_held t (e ∷ s) ≡ limit_held t s = same_limit t e s h.off h.taken in
+    let last : last_number t (e ∷ s) ≡ last_number t s = last_same t e s h.off h.taken in
+    rw (facts, entry, authority, on, limit, last) refl
 
 -- What an entry leaves of a train of the zone.
 
@@ -180,13 +182,22 @@ pub issued_same : (t : ℕ) (e : Made) (s : Story) → greatest_in (auth_number 
 unfolding greatest_issued
 issued_same t e s h = rw h (omega arith)
 
-pub zone_same : (line : Line) (t : ℕ) (e : Made) (s : Story) → StillZone line t e s → zone_train line t (e ∷ s) ≡ zone_train line t s
-zone_same line t e s h =
-    let c = h.counts in
-    let w : way line t (e ∷ s) ≡ way line t s = ap (λ (n : ℕ). longest (seg_len line) n t (e ∷ s)) c ∙ longest_same line (counted t s) t e s (h.paths (counted t s)) in
-    ap (λ (x : Option Path). zone_train_of t x (last_issued t (e ∷ s)) (counted t (e ∷ s))) w
-    ∙ (ap (λ (n : ℕ). zone_train_of t (way line t s) n (counted t (e ∷ s))) (issued_same t e s h.numbers)
-    ∙ ap (λ (n : ℕ). zone_train_of t (way line t s) (last_issued t s) n) c)
+pub entered_at_same : (z t : ℕ) (e : Made) (s : Story) → grants_entry z t e ≡ false → entered_at z t (e ∷ s) ≡ entered_at z t s
+unfolding entered_at
+entered_at_same z t e s h = rw h refl
+
+pub way_same : (line : Line) (t : ℕ) (e : Made) (s : Story) → StillZone line t e s → way line t (e ∷ s) ≡ way line t s
+way_same line t e s h = ap (λ (n : ℕ). longest (seg_len line) n t (e ∷ s)) h.counts ∙ longest_same line (counted t s) t e s (h.paths (counted t s))
+
+pub zone_same : (line : Line) (t : ℕ) (e : Made) (s : Story) → grants_entry (zone_id line) t e ≡ false → StillZone line t e s → zone_train line t (e ∷ s) ≡ zone_train line t s
+zone_same line t e s none h =
+    let long : known_long (zone_id line) t (e ∷ s) ≡ known_long (zone_id line) t s = same_long (zone_id line) t e s none in
+    let at_ : entered_at (zone_id line) t (e ∷ s) ≡ entered_at (zone_id line) t s = entered_at_same (zone_id line) t e s none in
+    let w : way line t (e ∷ s) ≡ way line t s = way_same line t e s h in
+    let last : last_issued t (e ∷ s) ≡ last_issued t s = issued_same t e s h.numbers in
+    let c : counted t (e ∷ s) ≡ counted t s = h.counts in
+    ap (λ (x : Option Path). zone_train_of (seg_len line) t (known_long (zone_id line) t (e ∷ s)) (entered_at (zone_id line) t (e ∷ s)) x (last_issued t (e ∷ s)) (counted t (e ∷ s))) w
+    ∙ rw (long, at_, last, c) refl
 
 pub counted_none : (t : ℕ) (e : Made) (s : Story) → answer_number t e.took ≡ 0 → counted t (e ∷ s) ≡ counted t s
 unfolding counted
@@ -203,6 +214,32 @@ pub world_controls : (line : Line) (t : ℕ) (s : Story) → IsLineOfOneZone lin
 world_controls line t s l sound = by_test (controls 0 t s)
     (λ y. absurd (let a = sound.zone_alone 0 y in let b = zone_positive line l in omega arith))
     (λ n. n)
+
+-- Now.
+
+pub now_else : (z : ℕ) (e : Made) (s : Story) → nat_eq e.actor z ≡ false → now_of z (e ∷ s) ≡ now_of z s
+unfolding now_of
+now_else z e s h = rw h refl
+
+pub now_here : (z : ℕ) (e : Made) (s : Story) → nat_eq e.actor z ≡ true → now_of z (e ∷ s) ≡ max (now_of z s) (took_time e.took)
+unfolding now_of
+now_here z e s h = rw h refl
+
+-- What an entry grants.
+
+pub long_granted : (z t : ℕ) (e : Made) (s : Story) → grants_entry z t e ≡ true → known_long z t (e ∷ s) ≡ asked_long e.took
+unfolding known_long
+long_granted z t e s h = rw h refl
+
+pub at_granted : (z t : ℕ) (e : Made) (s : Story) → grants_entry z t e ≡ true → entered_at z t (e ∷ s) ≡ now_of z (e ∷ s)
+unfolding entered_at
+at_granted z t e s h = rw h refl
+
+-- Numbers issued.
+
+pub few_more : (t : ℕ) (e : Made) (s : Story) → last_issued t s ≤ length s + 1 → greatest_in (auth_number t) e.issued ≤ last_issued t s + 1 → last_issued t (e ∷ s) ≤ length (e ∷ s) + 1
+unfolding greatest_issued
+few_more t e s h k = omega arith
 
 -- Links.
 
@@ -238,5 +275,5 @@ unasked_same t e s h old d = same_told (λ (x : Made). entry_in t x.event) e s h
 pub off_same : (t : ℕ) (e : Made) (s : Story) → enters t e.event ≡ false → (is_declared t s ≡ false → entered t s ≡ false) → is_declared t (e ∷ s) ≡ false → entered t (e ∷ s) ≡ false
 off_same t e s h old d = entered_same t e s h ∙ old (undeclared_before t e s d)
 
-pub holds_same : (t : ℕ) (e : Made) (s : Story) → enters t e.event ≡ false → (entered t s ≡ true → is_some (entry_authority t s) ≡ true) → entered t (e ∷ s) ≡ true → is_some (entry_authority t (e ∷ s)) ≡ true
-holds_same t e s h old d = authority_stays t e s (old (sym (entered_same t e s h) ∙ d))
+pub authorized_same : (t : ℕ) (e : Made) (s : Story) → enters t e.event ≡ false → (entered t s ≡ true → is_some (entry_authority t s) ≡ true) → entered t (e ∷ s) ≡ true → is_some (entry_authority t (e ∷ s)) ≡ true
+authorized_same t e s h old d = authority_stays t e s (old (sym (entered_same t e s h) ∙ d))

@@ -67,7 +67,7 @@ in_most number n (x ∷ issued) h = by_test (nat_le n (number x.1))
     (λ y. grind (arith, nat_tests))
     (λ e. let r = in_most number n issued (rw e at h) in omega arith)
 
-ever_most : (number : Msg → ℕ) (n : ℕ) (s : Story) → ever_issued (λ m. nat_le n (number m)) s ≡ true → n ≤ greatest_issued number s
+pub ever_most : (number : Msg → ℕ) (n : ℕ) (s : Story) → ever_issued (λ m. nat_le n (number m)) s ≡ true → n ≤ greatest_issued number s
 unfolding ever_issued greatest_issued
 ever_most number n [] h = absurd cc
 ever_most number n (e ∷ s) h = by_test (list_any (λ (x : ℕ × Msg). nat_le n (number x.1)) e.issued)

@@ -74,7 +74,7 @@ last_at_most t e s n off h k = by_test (entered t s)
 no_entry_taken : (t : ℕ) (took : Option (ℕ × Msg)) → taken_number t took ≡ 0 → taken_entry t took ≡ None
 no_entry_taken t took h = rw h refl
 
-same_limit : (t : ℕ) (e : Made) (s : Story) → enters t e.event ≡ false → taken_number t (world_took e) ≡ 0 → limit_held t (e ∷ s) ≡ limit_held t s
+pub same_limit : (t : ℕ) (e : Made) (s : Story) → enters t e.event ≡ false → taken_number t (world_took e) ≡ 0 → limit_held t (e ∷ s) ≡ limit_held t s
 unfolding limit_held
 same_limit t e s off h =
     let none : nat_lt (last_number t s) 0 ≡ false = grind (arith, nat_tests) in

@@ -108,7 +108,7 @@ same_control : (y t : ℕ) (e : Made) (s : Story) → grants_entry y t e ≡ fal
 unfolding ever
 same_control y t e s h = rw h refl
 
-same_long : (z t : ℕ) (e : Made) (s : Story) → grants_entry z t e ≡ false → known_long z t (e ∷ s) ≡ known_long z t s
+pub same_long : (z t : ℕ) (e : Made) (s : Story) → grants_entry z t e ≡ false → known_long z t (e ∷ s) ≡ known_long z t s
 unfolding known_long
 same_long z t e s h = rw h refl
 
@@ -120,7 +120,7 @@ most_issued : (number : Msg → ℕ) (e : Made) (s : Story) (n : ℕ) → greate
 unfolding greatest_issued
 most_issued number e s n h k = omega arith
 
-same_longest : (len : Lengths) (n t : ℕ) (e : Made) (s : Story) → longest_in len n t e.issued ≡ None → longest len n t (e ∷ s) ≡ longest len n t s
+pub same_longest : (len : Lengths) (n t : ℕ) (e : Made) (s : Story) → longest_in len n t e.issued ≡ None → longest len n t (e ∷ s) ≡ longest len n t s
 unfolding longest
 same_longest len n t e s h = rw h refl
 

@@ -2,12 +2,12 @@
 use Rattle.std.proofs.Common.{◌≡◌, ℕ, zero, suc, ◌≤◌, List, [], ◌∷◌, ◌++◌, length, Option, Some, None, Bool, true, false, ◌&&◌, refl, sym, ◌∙◌, ap, arith, not}
 use Rattle.std.proofs.lemmas.Bool.Decides.{nat_tests}
 use Rattle.std.proofs.lemmas.Bool.{eqb-true}
-use Rattle.std.specs.Prelude.{nat_eq, nat_lt, is_some}
+use Rattle.std.specs.Prelude.{nat_eq, nat_le, nat_lt, is_some}
 use Rattle.std.specs.List.{list_any}
 use Rattle.track_points.specs.declared.ids.DirSeg.{DirSeg}
 use Rattle.track_points.specs.declared.path.Path.{Path}
 use Rattle.std.proofs.Math.Path.{fun_ext}
-use Rattle.track_points.specs.Points.{Point, Cell, some_below, path_has}
+use Rattle.track_points.specs.Points.{Lengths, Point, Cell, some_below, path_has}
 use Rattle.track_points.proofs.Some.{by_test}
 use Rattle.definitions.specs.declared.item.Item.{Item}
 use Rattle.definitions.specs.declared.item.Item.TheVariants.{Zone, Segment, Joint, Portal, Buffer}
@@ -15,58 +15,24 @@ use Rattle.definitions.specs.Track.{Line, ranged, has_zone, seg_len, owner}
 use Rattle.definitions.specs.Rules.{rule_of, is_any_zone, builds, finish_rule}
 use Rattle.definitions.specs.Premises.{is_actor}
 use Rattle.definitions.specs.Story.{Story, sent}
-use Rattle.definitions.specs.World as tr
 use Rattle.definitions.specs.World.{Facts, facts_of, is_declared, first_entry, entered, HeldPath, entry_authority, last_number}
-use Rattle.definitions.specs.Control.{controls, knows, known_trains, counted, last_issued}
+use Rattle.definitions.specs.Control.{controls, knows, knows_most, known_trains, known_long, entered_at, counted, last_issued}
 use Rattle.definitions.specs.Authority.{way, way_has, held, least_of, holder_of}
 use Rattle.definitions.specs.Limit.{reach_from, barring, limit}
 use Rattle.definitions.specs.Steps.{sender_of}
 use Rattle.definitions.specs.Safe.{IsLineOfOneZone}
 use Rattle.plain_state.specs.declared.WorldTrain.{WorldTrain}
-use Rattle.plain_state.specs.declared.ZoneTrain.{ZoneTrain}
-use Rattle.plain_state.specs.Plain.{Plain, zone_id, find_train, find_way, facts_found, entry_found, authority_found, on_found, number_found, path_found, last_found, ready_found, way_on, barring_plain, holder_plain, reach_plain, link}
-use Rattle.story_laws.proofs.Known.{ids, Distinct, any_is, least_is}
+use Rattle.plain_state.specs.declared.EntryAuthority.{EntryAuthority}
+use Rattle.plain_state.specs.ZoneTrain.{ZoneTrain}
+use Rattle.plain_state.specs.World.{find_train, facts_found, entry_found, kept_sender, authority_found, on_found, number_found}
+use Rattle.plain_state.specs.Zone.{find_way, path_found, last_found, ready_found, full, way_on, barring_plain, holder_plain, reach_plain}
+use Rattle.plain_state.specs.Plain.{Plain, zone_id, link}
+use Rattle.plain_state.specs.Relation.{ids, kept_authority, world_of, zone_train_of, Linked}
+use Rattle.story_laws.proofs.Known.{any_is, least_is, ids_length}
 use Rattle.story_laws.proofs.Lines.{both}
 use Rattle.story_laws.proofs.Sound.{Sound}
 use Rattle.story_laws.proofs.Grant_moves.{way_far}
 use Rattle.story_laws.proofs.Every.{actor_zone}
-
--- a train of the world and a train of the zone, by the notions
-abbrev pub world_of : ℕ → Option Facts → Option DirSeg → Option ℕ → Bool → ℕ → Option WorldTrain
-world_of t None entry authority on last = None
-world_of t (Some f) entry authority on last = Some (record {
-  id = record { 0 = t };
-  train_length = f.long;
-  error = f.error;
-  speed = f.speed;
-  entry = entry;
-  authority = authority;
-  entered = on;
-  last = last;
-})
-
-abbrev pub world_train : ℕ → Story → Option WorldTrain
-world_train t s = world_of t (facts_of t s) (first_entry t s) (sender_of (entry_authority t s)) (entered t s) (last_number t s)
-
-abbrev pub zone_train_of : ℕ → Option Path → ℕ → ℕ → Option ZoneTrain
-zone_train_of t None last answered = None
-zone_train_of t (Some path) last answered = Some (record { id = record { 0 = t }; path = path; last = last; answered = answered })
-
-abbrev pub zone_train : Line → ℕ → Story → Option ZoneTrain
-zone_train line t s = zone_train_of t (way line t s) (last_issued t s) (counted t s)
-
-pub record Linked (line : Line) (s : Story) (p : Plain) : Type 0 where
-  pub zone : p.zone ≡ zone_id line
-  pub trains : (t : ℕ) → find_train t p.trains ≡ world_train t s
-  pub ways : (t : ℕ) → find_way t p.ways ≡ zone_train line t s
-  pub to_zone : p.to_zone ≡ sent 0 (zone_id line) s
-  pub to_world : p.to_world ≡ sent (zone_id line) 0 s
-  pub count : length p.trains ≡ length (tr.trains s)
-  pub known : ids p.ways ≡ known_trains (zone_id line) s
-  pub distinct : Distinct p.ways
-  pub unasked : (t : ℕ) → is_declared t s ≡ false → first_entry t s ≡ None
-  pub stays_off : (t : ℕ) → is_declared t s ≡ false → entered t s ≡ false
-  pub holds : (t : ℕ) → entered t s ≡ true → is_some (entry_authority t s) ≡ true
 
 -- The zone of a valid line is above 0.
 
@@ -98,45 +64,50 @@ zone_positive line l =
 
 -- What is found.
 
-facts_of_world : (t : ℕ) (f : Option Facts) (e : Option DirSeg) (a : Option ℕ) (o : Bool) (n : ℕ) → facts_found (world_of t f e a o n) ≡ f
-facts_of_world t None e a o n = refl
-facts_of_world t (Some f) e a o n = refl
+facts_of_world : (t : ℕ) (f : Option Facts) (e : Option DirSeg) (a : Option EntryAuthority) (o : Bool) (m n : ℕ) → facts_found (world_of t f e a o m n) ≡ f
+facts_of_world t None e a o m n = refl
+facts_of_world t (Some f) e a o m n = refl
 
-entry_of_world : (t : ℕ) (f : Option Facts) (e : Option DirSeg) (a : Option ℕ) (o : Bool) (n : ℕ) → (is_some f ≡ false → e ≡ None) → entry_found (world_of t f e a o n) ≡ e
-entry_of_world t None e a o n h = sym (h refl)
-entry_of_world t (Some f) e a o n h = refl
+entry_of_world : (t : ℕ) (f : Option Facts) (e : Option DirSeg) (a : Option EntryAuthority) (o : Bool) (m n : ℕ) → (is_some f ≡ false → e ≡ None) → entry_found (world_of t f e a o m n) ≡ e
+entry_of_world t None e a o m n h = sym (h refl)
+entry_of_world t (Some f) e a o m n h = refl
 
-authority_of_world : (t : ℕ) (f : Option Facts) (e : Option DirSeg) (a : Option ℕ) (o : Bool) (n : ℕ) → (is_some f ≡ false → a ≡ None) → authority_found (world_of t f e a o n) ≡ a
-authority_of_world t None e a o n h = sym (h refl)
-authority_of_world t (Some f) e a o n h = refl
+authority_of_world : (t : ℕ) (f : Option Facts) (e : Option DirSeg) (a : Option EntryAuthority) (o : Bool) (m n : ℕ) → (is_some f ≡ false → kept_sender a ≡ None) → authority_found (world_of t f e a o m n) ≡ kept_sender a
+authority_of_world t None e a o m n h = sym (h refl)
+authority_of_world t (Some f) e a o m n h = refl
 
-on_of_world : (t : ℕ) (f : Option Facts) (e : Option DirSeg) (a : Option ℕ) (o : Bool) (n : ℕ) → (is_some f ≡ false → o ≡ false) → on_found (world_of t f e a o n) ≡ o
-on_of_world t None e a o n h = sym (h refl)
-on_of_world t (Some f) e a o n h = refl
+on_of_world : (t : ℕ) (f : Option Facts) (e : Option DirSeg) (a : Option EntryAuthority) (o : Bool) (m n : ℕ) → (is_some f ≡ false → o ≡ false) → on_found (world_of t f e a o m n) ≡ o
+on_of_world t None e a o m n h = sym (h refl)
+on_of_world t (Some f) e a o m n h = refl
 
-number_of_world : (t : ℕ) (f : Option Facts) (e : Option DirSeg) (a : Option ℕ) (o : Bool) (n : ℕ) → (is_some f ≡ false → n ≡ 0) → number_found (world_of t f e a o n) ≡ n
-number_of_world t None e a o n h = sym (h refl)
-number_of_world t (Some f) e a o n h = refl
+number_of_world : (t : ℕ) (f : Option Facts) (e : Option DirSeg) (a : Option EntryAuthority) (o : Bool) (m n : ℕ) → (is_some f ≡ false → n ≡ 0) → number_found (world_of t f e a o m n) ≡ n
+number_of_world t None e a o m n h = sym (h refl)
+number_of_world t (Some f) e a o m n h = refl
 
-some_of_world : (t : ℕ) (f : Option Facts) (e : Option DirSeg) (a : Option ℕ) (o : Bool) (n : ℕ) → is_some (world_of t f e a o n) ≡ is_some f
-some_of_world t None e a o n = refl
-some_of_world t (Some f) e a o n = refl
+some_of_world : (t : ℕ) (f : Option Facts) (e : Option DirSeg) (a : Option EntryAuthority) (o : Bool) (m n : ℕ) → is_some (world_of t f e a o m n) ≡ is_some f
+some_of_world t None e a o m n = refl
+some_of_world t (Some f) e a o m n = refl
 
-path_of_zone : (t : ℕ) (w : Option Path) (last answered : ℕ) → path_found (zone_train_of t w last answered) ≡ w
-path_of_zone t None last answered = refl
-path_of_zone t (Some path) last answered = refl
+path_of_zone : (len : Lengths) (t long at : ℕ) (w : Option Path) (last answered : ℕ) → path_found (zone_train_of len t long at w last answered) ≡ w
+path_of_zone len t long at None last answered = refl
+path_of_zone len t long at (Some path) last answered = refl
 
-last_of_zone : (t : ℕ) (w : Option Path) (last answered : ℕ) → (w ≡ None → last ≡ 0) → last_found (zone_train_of t w last answered) ≡ last
-last_of_zone t None last answered h = sym (h refl)
-last_of_zone t (Some path) last answered h = refl
+last_of_zone : (len : Lengths) (t long at : ℕ) (w : Option Path) (last answered : ℕ) → (w ≡ None → last ≡ 0) → last_found (zone_train_of len t long at w last answered) ≡ last
+last_of_zone len t long at None last answered h = sym (h refl)
+last_of_zone len t long at (Some path) last answered h = refl
 
-some_of_zone : (t : ℕ) (w : Option Path) (last answered : ℕ) → is_some (zone_train_of t w last answered) ≡ is_some w
-some_of_zone t None last answered = refl
-some_of_zone t (Some path) last answered = refl
+some_of_zone : (len : Lengths) (t long at : ℕ) (w : Option Path) (last answered : ℕ) → is_some (zone_train_of len t long at w last answered) ≡ is_some w
+some_of_zone len t long at None last answered = refl
+some_of_zone len t long at (Some path) last answered = refl
 
-ready_of_zone : (t : ℕ) (w : Option Path) (last answered : ℕ) → (w ≡ None → answered ≡ 0) → ready_found (zone_train_of t w last answered) ≡ (is_some w && nat_lt 0 answered)
-ready_of_zone t None last answered h = refl
-ready_of_zone t (Some path) last answered h = refl
+ready_of_zone : (len : Lengths) (t long at : ℕ) (w : Option Path) (last answered : ℕ) → (w ≡ None → answered ≡ 0) → ready_found (zone_train_of len t long at w last answered) ≡ (is_some w && nat_lt 0 answered)
+ready_of_zone len t long at None last answered h = refl
+ready_of_zone len t long at (Some path) last answered h = refl
+
+-- who sent the authority that is kept
+pub sender_kept : (len : Lengths) (a : Option HeldPath) → kept_sender (kept_authority len a) ≡ sender_of a
+sender_kept len None = refl
+sender_kept len (Some a) = refl
 
 abbrev id_or : ℕ → Option ZoneTrain → ℕ
 id_or t None = t
@@ -148,11 +119,11 @@ unknown line t s sound h = by_test (controls (zone_id line) t s)
     (λ y. absurd (let a = sound.declared y in cc))
     (λ n. n)
 
-pub no_authority : (line : Line) (t : ℕ) (s : Story) → Sound line t s → is_declared t s ≡ false → sender_of (entry_authority t s) ≡ None
-no_authority line t s sound h = none (entry_authority t s) refl
+pub no_entry_authority : (line : Line) (t : ℕ) (s : Story) → Sound line t s → is_declared t s ≡ false → entry_authority t s ≡ None
+no_entry_authority line t s sound h = none (entry_authority t s) refl
   where
-    none : (a : Option HeldPath) → entry_authority t s ≡ a → sender_of (entry_authority t s) ≡ None
-    none None e = rw e refl
+    none : (a : Option HeldPath) → entry_authority t s ≡ a → a ≡ None
+    none None e = refl
     none (Some a) e = absurd (let x = sound.authority_some a e in let y = sound.unknown_last (unknown line t s sound h) in omega arith)
 
 pub no_number : (line : Line) (t : ℕ) (s : Story) → Sound line t s → is_declared t s ≡ false → last_number t s ≡ 0
@@ -168,78 +139,82 @@ pub no_way_unknown : (line : Line) (t : ℕ) (s : Story) → Sound line t s → 
 no_way_unknown line t s sound h = sym (way_is_known line t s sound) ∙ ap (λ (x : Option Path). is_some x) h
 
 module _ (line : Line) (s : Story) (p : Plain) (l : IsLineOfOneZone line) (k : Linked line s p) (sound : (t : ℕ) → Sound line t s) where
-  pub facts_is : (t : ℕ) → facts_found (find_train t p.trains) ≡ facts_of t s
-  facts_is t = ap (λ (x : Option WorldTrain). facts_found x) (k.trains t) ∙ facts_of_world t (facts_of t s) _ _ _ _
+  pub facts_is : (t : ℕ) → facts_found (find_train t p.world.trains) ≡ facts_of t s
+  facts_is t = ap (λ (x : Option WorldTrain). facts_found x) (k.trains t) ∙ facts_of_world t (facts_of t s) _ _ _ _ _
 
-  pub declared_is : (t : ℕ) → is_some (find_train t p.trains) ≡ is_declared t s
-  declared_is t = ap (λ (x : Option WorldTrain). is_some x) (k.trains t) ∙ some_of_world t (facts_of t s) _ _ _ _
+  pub declared_is : (t : ℕ) → is_some (find_train t p.world.trains) ≡ is_declared t s
+  declared_is t = ap (λ (x : Option WorldTrain). is_some x) (k.trains t) ∙ some_of_world t (facts_of t s) _ _ _ _ _
 
-  pub entry_is : (t : ℕ) → entry_found (find_train t p.trains) ≡ first_entry t s
-  entry_is t = ap (λ (x : Option WorldTrain). entry_found x) (k.trains t) ∙ entry_of_world t (facts_of t s) (first_entry t s) _ _ _ (k.unasked t)
+  pub entry_is : (t : ℕ) → entry_found (find_train t p.world.trains) ≡ first_entry t s
+  entry_is t = ap (λ (x : Option WorldTrain). entry_found x) (k.trains t) ∙ entry_of_world t (facts_of t s) (first_entry t s) _ _ _ _ (k.unasked t)
 
-  pub authority_is : (t : ℕ) → authority_found (find_train t p.trains) ≡ sender_of (entry_authority t s)
-  authority_is t = ap (λ (x : Option WorldTrain). authority_found x) (k.trains t) ∙ authority_of_world t (facts_of t s) _ (sender_of (entry_authority t s)) _ _ (no_authority line t s (sound t))
+  pub authority_is : (t : ℕ) → authority_found (find_train t p.world.trains) ≡ sender_of (entry_authority t s)
+  authority_is t = ap (λ (x : Option WorldTrain). authority_found x) (k.trains t) ∙ (authority_of_world t (facts_of t s) _ (kept_authority (seg_len line) (entry_authority t s)) _ _ _ (λ h. ap (λ (a : Option HeldPath). kept_sender (kept_authority (seg_len line) a)) (no_entry_authority line t s (sound t) h))
+      ∙ sender_kept (seg_len line) (entry_authority t s))
 
-  pub on_is : (t : ℕ) → on_found (find_train t p.trains) ≡ entered t s
-  on_is t = ap (λ (x : Option WorldTrain). on_found x) (k.trains t) ∙ on_of_world t (facts_of t s) _ _ (entered t s) _ (k.stays_off t)
+  pub on_is : (t : ℕ) → on_found (find_train t p.world.trains) ≡ entered t s
+  on_is t = ap (λ (x : Option WorldTrain). on_found x) (k.trains t) ∙ on_of_world t (facts_of t s) _ _ (entered t s) _ _ (k.stays_off t)
 
-  pub number_is : (t : ℕ) → number_found (find_train t p.trains) ≡ last_number t s
-  number_is t = ap (λ (x : Option WorldTrain). number_found x) (k.trains t) ∙ number_of_world t (facts_of t s) _ _ _ (last_number t s) (no_number line t s (sound t))
+  pub number_is : (t : ℕ) → number_found (find_train t p.world.trains) ≡ last_number t s
+  number_is t = ap (λ (x : Option WorldTrain). number_found x) (k.trains t) ∙ number_of_world t (facts_of t s) _ _ _ _ (last_number t s) (no_number line t s (sound t))
 
-  pub path_is : (t : ℕ) → path_found (find_way t p.ways) ≡ way line t s
-  path_is t = ap (λ (x : Option ZoneTrain). path_found x) (k.ways t) ∙ path_of_zone t (way line t s) _ _
+  pub path_is : (t : ℕ) → path_found (find_way t p.zone.trains) ≡ way line t s
+  path_is t = ap (λ (x : Option ZoneTrain). path_found x) (k.ways t) ∙ path_of_zone (seg_len line) t (known_long (zone_id line) t s) (entered_at (zone_id line) t s) (way line t s) _ _
 
-  pub last_is : (t : ℕ) → last_found (find_way t p.ways) ≡ last_issued t s
-  last_is t = ap (λ (x : Option ZoneTrain). last_found x) (k.ways t) ∙ last_of_zone t (way line t s) (last_issued t s) (counted t s) (λ h. (sound t).unknown_last (no_way_unknown line t s (sound t) h))
+  pub last_is : (t : ℕ) → last_found (find_way t p.zone.trains) ≡ last_issued t s
+  last_is t = ap (λ (x : Option ZoneTrain). last_found x) (k.ways t) ∙ last_of_zone (seg_len line) t (known_long (zone_id line) t s) (entered_at (zone_id line) t s) (way line t s) (last_issued t s) (counted t s) (λ h. (sound t).unknown_last (no_way_unknown line t s (sound t) h))
 
-  pub known_is : (t : ℕ) → is_some (find_way t p.ways) ≡ knows (zone_id line) t s
-  known_is t = ap (λ (x : Option ZoneTrain). is_some x) (k.ways t) ∙ (some_of_zone t (way line t s) _ _ ∙ way_is_known line t s (sound t))
+  pub known_is : (t : ℕ) → is_some (find_way t p.zone.trains) ≡ knows (zone_id line) t s
+  known_is t = ap (λ (x : Option ZoneTrain). is_some x) (k.ways t) ∙ (some_of_zone (seg_len line) t (known_long (zone_id line) t s) (entered_at (zone_id line) t s) (way line t s) _ _ ∙ way_is_known line t s (sound t))
 
-  pub ready_is : (t : ℕ) → ready_found (find_way t p.ways) ≡ (controls (zone_id line) t s && nat_lt 0 (counted t s))
+  pub ready_is : (t : ℕ) → ready_found (find_way t p.zone.trains) ≡ (controls (zone_id line) t s && nat_lt 0 (counted t s))
   ready_is t =
       ap (λ (x : Option ZoneTrain). ready_found x) (k.ways t)
-      ∙ (ready_of_zone t (way line t s) (last_issued t s) (counted t s) (λ h. let a = (sound t).counted_most in let b = (sound t).unknown_last (no_way_unknown line t s (sound t) h) in omega arith)
+      ∙ (ready_of_zone (seg_len line) t (known_long (zone_id line) t s) (entered_at (zone_id line) t s) (way line t s) (last_issued t s) (counted t s) (λ h. let a = (sound t).counted_most in let b = (sound t).unknown_last (no_way_unknown line t s (sound t) h) in omega arith)
       ∙ ap (λ (b : Bool). b && nat_lt 0 (counted t s)) (way_is_known line t s (sound t)))
+
+  pub full_is : full p.zone.trains ≡ knows_most (zone_id line) s
+  full_is = ap (λ (n : ℕ). nat_le 256 n) (sym (ids_length p.zone.trains)) ∙ ap (λ (xs : List ℕ). nat_le 256 (length xs)) k.known
 
   -- a way that is found is what is held for its train
 
-  held_found : (t : ℕ) (x : ZoneTrain) (point : Point) → find_way t p.ways ≡ Some x → held line (zone_id line) t s point ≡ (nat_eq (owner line point) (zone_id line) && path_has (seg_len line) x.path point)
+  held_found : (t : ℕ) (x : ZoneTrain) (point : Point) → find_way t p.zone.trains ≡ Some x → held line (zone_id line) t s point ≡ (nat_eq (owner line point) (zone_id line) && path_has (seg_len line) x.way.path point)
   held_found t x point found =
       let known : controls (zone_id line) t s ≡ true = sym (known_is t) ∙ ap (λ (y : Option ZoneTrain). is_some y) found in
-      let is : way line t s ≡ Some x.path = sym (path_is t) ∙ ap (λ (y : Option ZoneTrain). path_found y) found in
+      let is : way line t s ≡ Some x.way.path = sym (path_is t) ∙ ap (λ (y : Option ZoneTrain). path_found y) found in
       rw known (ap (λ (w : Option Path). nat_eq (owner line point) (zone_id line) && way_has (seg_len line) w point) is)
 
-  found_id : (t : ℕ) (x : ZoneTrain) → find_way t p.ways ≡ Some x → x.id.0 ≡ t
+  found_id : (t : ℕ) (x : ZoneTrain) → find_way t p.zone.trains ≡ Some x → x.id.0 ≡ t
   found_id t x found = same (way line t s) (sym (k.ways t) ∙ found)
     where
-      same : (w : Option Path) → zone_train_of t w (last_issued t s) (counted t s) ≡ Some x → x.id.0 ≡ t
+      same : (w : Option Path) → zone_train_of (seg_len line) t (known_long (zone_id line) t s) (entered_at (zone_id line) t s) w (last_issued t s) (counted t s) ≡ Some x → x.id.0 ≡ t
       same None e = absurd cc
       same (Some path) e = ap (λ (y : Option ZoneTrain). id_or t y) (sym e)
 
-  pub barring_is : (t : ℕ) (point : Point) → barring_plain line (zone_id line) p.ways t point ≡ barring line (zone_id line) t s point
+  pub barring_is : (t : ℕ) (point : Point) → barring_plain line (zone_id line) p.zone.trains t point ≡ barring line (zone_id line) t s point
   barring_is t point = by_test (nat_eq (owner line point) (zone_id line))
       (λ own.
-      let f : ZoneTrain → Bool = λ x. not (nat_eq x.id.0 t) && path_has (seg_len line) x.path point in
+      let f : ZoneTrain → Bool = λ x. not (nat_eq x.id.0 t) && path_has (seg_len line) x.way.path point in
       let g : ℕ → Bool = λ u. not (nat_eq u t) && held line (zone_id line) u s point in
-      let same : list_any f p.ways ≡ list_any g (ids p.ways) = any_is f g p.ways k.distinct (λ u x found.
-      ap (λ (i : ℕ). not (nat_eq i t) && path_has (seg_len line) x.path point) (found_id u x found)
+      let same : list_any f p.zone.trains ≡ list_any g (ids p.zone.trains) = any_is f g p.zone.trains k.distinct (λ u x found.
+      ap (λ (i : ℕ). not (nat_eq i t) && path_has (seg_len line) x.way.path point) (found_id u x found)
       ∙ sym (ap (λ (b : Bool). not (nat_eq u t) && b) (held_found u x point found ∙ rw own refl))) in
-      let listed : list_any g (ids p.ways) ≡ list_any g (known_trains (zone_id line) s) = ap (λ (xs : List ℕ). list_any g xs) k.known in
+      let listed : list_any g (ids p.zone.trains) ≡ list_any g (known_trains (zone_id line) s) = ap (λ (xs : List ℕ). list_any g xs) k.known in
       ap (λ (b : Bool). nat_eq (owner line point) (zone_id line) && b) (same ∙ listed))
       (λ away. rw away refl)
 
-  pub holder_is : (seg : ℕ) → holder_plain line (zone_id line) p.ways seg ≡ holder_of line (zone_id line) s seg
+  pub holder_is : (seg : ℕ) → holder_plain line (zone_id line) p.zone.trains seg ≡ holder_of line (zone_id line) s seg
   holder_is seg =
       let g : ℕ → Bool = λ u. some_below (λ mm. held line (zone_id line) u s (Cell seg mm)) (seg_len line seg) in
-      least_is (way_on line (zone_id line) seg) g p.ways k.distinct (λ u x found.
+      least_is (way_on line (zone_id line) seg) g p.zone.trains k.distinct (λ u x found.
       ap (λ (test : ℕ → Bool). some_below test (seg_len line seg)) (fun_ext (λ mm. sym (held_found u x (Cell seg mm) found))))
       ∙ ap (λ (xs : List ℕ). least_of g xs) k.known
 
-  pub reach_is : (t : ℕ) (asked : List DirSeg) (to : ℕ) → reach_plain line (zone_id line) p.ways t asked to ≡ limit line (zone_id line) t s asked to
+  pub reach_is : (t : ℕ) (asked : List DirSeg) (to : ℕ) → reach_plain line (zone_id line) p.zone.trains t asked to ≡ limit line (zone_id line) t s asked to
   reach_is t asked to =
-      let held_same : barring_plain line (zone_id line) p.ways t ≡ barring line (zone_id line) t s = fun_ext (λ point. barring_is t point) in
-      ap (λ (b : Bool). reach_from line b (path_found (find_way t p.ways)) asked to (barring_plain line (zone_id line) p.ways t)) (ready_is t)
-      ∙ (ap (λ (w : Option Path). reach_from line (controls (zone_id line) t s && nat_lt 0 (counted t s)) w asked to (barring_plain line (zone_id line) p.ways t)) (path_is t)
+      let held_same : barring_plain line (zone_id line) p.zone.trains t ≡ barring line (zone_id line) t s = fun_ext (λ point. barring_is t point) in
+      ap (λ (b : Bool). reach_from line b (path_found (find_way t p.zone.trains)) asked to (barring_plain line (zone_id line) p.zone.trains t)) (ready_is t)
+      ∙ (ap (λ (w : Option Path). reach_from line (controls (zone_id line) t s && nat_lt 0 (counted t s)) w asked to (barring_plain line (zone_id line) p.zone.trains t)) (path_is t)
       ∙ ap (λ (test : Point → Bool). reach_from line (controls (zone_id line) t s && nat_lt 0 (counted t s)) (way line t s) asked to test) held_same)
 
   -- the messages of the link between two different actors of the line
@@ -247,12 +222,12 @@ module _ (line : Line) (s : Story) (p : Plain) (l : IsLineOfOneZone line) (k : L
   link_is zero zero h a b = absurd cc
   link_is zero (suc to) h a b =
       let z = actor_zone line to l a in
-      let same : nat_eq (suc to) p.zone ≡ true = let e = k.zone in grind (arith, nat_tests) in
+      let same : nat_eq (suc to) p.zone.id ≡ true = let e = k.zone in grind (arith, nat_tests) in
       rw same (k.to_zone ∙ ap (λ (n : ℕ). sent 0 n s) (sym z))
   link_is (suc from) zero h a b =
       let z = actor_zone line from l b in
       let other : nat_eq (suc from) 0 ≡ false = grind (arith, nat_tests) in
-      let same : nat_eq (suc from) p.zone ≡ true = let e = k.zone in grind (arith, nat_tests) in
+      let same : nat_eq (suc from) p.zone.id ≡ true = let e = k.zone in grind (arith, nat_tests) in
       rw (other, same) (k.to_world ∙ ap (λ (n : ℕ). sent n 0 s) (sym z))
   link_is (suc from) (suc to) h a b =
       let y = actor_zone line from l b in

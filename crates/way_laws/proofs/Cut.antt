@@ -109,6 +109,12 @@ unfolding total
 total_append len [] ys = omega arith
 total_append len (st ∷ xs) ys = let i = total_append len xs ys in omega arith
 
+-- a step is left
+pub cut_some : (len : Lengths) (steps : List DirSeg) (p : ℕ) → 0 < length steps → 0 < length (steps_to len steps p)
+unfolding steps_to
+cut_some len [] p h = absurd (omega arith)
+cut_some len (st ∷ steps) p h = by_test (nat_le p (len st.seg.0)) (λ y. rw y (omega arith)) (λ x. rw x (omega arith))
+
 -- no point lies between a place and itself
 pub none_between : (point : Point) (len : Lengths) (steps : List DirSeg) (lo : ℕ) → has_between len steps lo lo point ≡ false
 none_between point len steps lo =

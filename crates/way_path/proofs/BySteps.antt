@@ -1,16 +1,18 @@
 -- The points between two places, step by step.
-use Rattle.std.proofs.Common.{◌≡◌, ℕ, suc, zero, ◌+◌, ◌-◌, ◌<◌, ◌≤◌, min, Bool, true, false, ◌&&◌, ◌||◌, List, [], ◌∷◌, length, refl, arith, nat_eq, nat_lt, nat_le}
+use Rattle.std.proofs.Common.{◌≡◌, ℕ, suc, zero, ◌+◌, ◌-◌, ◌<◌, ◌≤◌, min, Bool, true, false, ◌&&◌, ◌||◌, List, [], ◌∷◌, length, Option, Some, None, refl, ◌∙◌, arith, nat_eq, nat_lt, nat_le}
 use Rattle.std.proofs.lemmas.Bool.Decides.{nat_tests}
 use Rattle.track_points.specs.declared.ids.Dir.{Dir}
 use Rattle.track_points.specs.declared.ids.Dir.TheVariants.{Up, Down}
 use Rattle.track_points.specs.declared.ids.DirSeg.{DirSeg}
 use Rattle.track_points.specs.declared.ids.Range.{Range}
+use Rattle.track_points.specs.declared.ids.ZoneId.{ZoneId}
 use Rattle.track_points.specs.Points.{Lengths, Point, Cell, Token, mm_at, is_at, cell_at, some_below, has_between}
 use Rattle.track_points.specs.Sets.{Points, held, token_in, in_range, has_cell, set_has, NeedsMoreRanges}
 use Rattle.track_points.proofs.Some.{by_test, same_bool}
 use Rattle.track_points.proofs.Places.{cell_here, cell_beyond}
 use Rattle.track_points.proofs.Between.{points_found, points_at}
-use Rattle.way_path.specs.Ways.{step_has}
+use Rattle.definitions.specs.Track.{Line, seg_len}
+use Rattle.way_path.specs.Ways.{step_has, segment_of, point_of}
 
 pub dir_twice : (len : ℕ) (d : Dir) (p : ℕ) → p < len → (mm_at len d p < len) × (mm_at len d (mm_at len d p) ≡ p)
 dir_twice len Up p h = (h, refl)
@@ -99,18 +101,35 @@ no_token len steps lo hi w =
     (λ y. let r = points_found (Token w) len steps lo hi y in let t = token_nowhere len steps r.place w in absurd (let p = r.passing in grind arith))
     (λ n. n)
 
-pub no_more : (len : Lengths) (steps : List DirSeg) (lo hi s mm : ℕ) (old : Bool) → length steps < 1 → old ≡ (old || has_between len steps lo hi (Cell s mm))
-no_more len [] lo hi s mm old h = rw (points_none (Cell s mm) len lo hi) (grind arith)
-no_more len (st ∷ steps) lo hi s mm old h = absurd (omega arith)
+pub no_more : (len : Lengths) (steps : List DirSeg) (lo hi s mm : ℕ) (old own : Bool) → length steps < 1 → old ≡ (old || (own && has_between len steps lo hi (Cell s mm)))
+no_more len [] lo hi s mm old own h = rw (points_none (Cell s mm) len lo hi) (grind arith)
+no_more len (st ∷ steps) lo hi s mm old own h = absurd (omega arith)
 
-pub one_step_more : (len : Lengths) (st : DirSeg) (steps rest : List DirSeg) (lo hi n lo2 hi2 s mm : ℕ) (old mid new : Bool) → steps ≡ st ∷ rest → n ≡ len st.seg.0
-    → lo2 ≡ lo - n → hi2 ≡ hi - n → mid ≡ (old || step_has (len st.seg.0) st lo hi s mm) → new ≡ (mid || has_between len rest lo2 hi2 (Cell s mm))
-    → new ≡ (old || has_between len steps lo hi (Cell s mm))
-one_step_more len st steps rest lo hi n lo2 hi2 s mm old mid new d e l h a b =
+pub one_step_more : (len : Lengths) (st : DirSeg) (steps rest : List DirSeg) (lo hi n lo2 hi2 s mm : ℕ) (old mid new own : Bool) → steps ≡ st ∷ rest → n ≡ len st.seg.0
+    → lo2 ≡ lo - n → hi2 ≡ hi - n → mid ≡ (old || (own && step_has (len st.seg.0) st lo hi s mm)) → new ≡ (mid || (own && has_between len rest lo2 hi2 (Cell s mm)))
+    → new ≡ (old || (own && has_between len steps lo hi (Cell s mm)))
+one_step_more len st steps rest lo hi n lo2 hi2 s mm old mid new own d e l h a b =
     rw (d, cells_first len st rest lo hi s mm, b, a, l, h, e) (grind arith)
 
-pub as_points : (p : Points) (len : Lengths) (steps : List DirSeg) (lo hi : ℕ) → p.tokens ≡ []
-    → ((s mm : ℕ) → has_cell p s mm ≡ has_between len steps lo hi (Cell s mm)) → (point : Point) → set_has p point ≡ has_between len steps lo hi point
+-- the cells of a step are of its segment
+pub step_own : (line : Line) (zone : Option ZoneId) (st : DirSeg) (from to s mm : ℕ) (old new : Bool) → segment_of line zone st.seg.0 ≡ true
+    → new ≡ (old || step_has (seg_len line st.seg.0) st from to s mm) → new ≡ (old || (segment_of line zone s && step_has (seg_len line st.seg.0) st from to s mm))
+step_own line zone st from to s mm old new o h =
+    by_test (nat_eq st.seg.0 s)
+    (λ y. let e : st.seg.0 ≡ s = grind (arith, nat_tests) in let t = rw e at o in rw t h)
+    (λ n. rw n (rw n at h ∙ grind arith))
+
+pub step_else : (line : Line) (zone : Option ZoneId) (st : DirSeg) (from to s mm : ℕ) (old : Bool) → segment_of line zone st.seg.0 ≡ false
+    → old ≡ (old || (segment_of line zone s && step_has (seg_len line st.seg.0) st from to s mm))
+step_else line zone st from to s mm old o =
+    by_test (nat_eq st.seg.0 s)
+    (λ y. let e : st.seg.0 ≡ s = grind (arith, nat_tests) in let t = rw e at o in rw t (grind arith))
+    (λ n. rw n (grind arith))
+
+pub as_points : (line : Line) (zone : Option ZoneId) (p : Points) (steps : List DirSeg) (lo hi : ℕ) → p.tokens ≡ []
+    → ((s mm : ℕ) → has_cell p s mm ≡ (segment_of line zone s && has_between (seg_len line) steps lo hi (Cell s mm)))
+    → (point : Point) → set_has p point ≡ (point_of line zone point && has_between (seg_len line) steps lo hi point)
 unfolding token_in
-as_points p len steps lo hi t h (Cell s mm) = h s mm
-as_points p len steps lo hi t h (Token w) = rw (t, no_token len steps lo hi w) refl
+as_points line None p steps lo hi t h (Cell s mm) = h s mm
+as_points line (Some z) p steps lo hi t h (Cell s mm) = h s mm
+as_points line zone p steps lo hi t h (Token w) = rw (t, no_token (seg_len line) steps lo hi w) (grind arith)

@@ -8,9 +8,10 @@ use Rattle.track_points.specs.declared.path.Path.{Path}
 use Rattle.track_points.specs.Points.{Lengths, total, place_of_last, end_place, steps_to, visits, no_segment_twice}
 use Rattle.track_points.proofs.Some.{by_test}
 use Rattle.definitions.specs.declared.item.Item.{Item}
-use Rattle.definitions.specs.Track.{seg_len, is_segment, has_segment, follows, joined}
+use Rattle.definitions.specs.Track.{seg_len, zone_of, is_segment, has_segment, follows, joined}
 use Rattle.definitions.specs.Limit.{last_step}
-use Rattle.way_path.specs.Ways.{chained, first_len, path_in_range, NotJoinedAt, RepeatedAt, IsFront, IsRear}
+use Rattle.definitions.specs.Ways.{chained, first_len, path_in_range}
+use Rattle.way_path.specs.Ways.{NotJoinedAt, RepeatedAt, IsFront, IsRear}
 
 pub undeclared : (line : List Item) (s : ℕ) → has_segment line s ≡ false → seg_len line s ≡ 0
 unfolding seg_len
@@ -19,6 +20,14 @@ undeclared (i ∷ line) s h =
     by_test (is_segment s i)
     (λ y. absurd (grind (arith, nat_tests)))
     (λ x. rw x (undeclared line s (grind (arith, nat_tests))))
+
+pub in_no_zone : (line : List Item) (s : ℕ) → has_segment line s ≡ false → zone_of line s ≡ 0
+unfolding zone_of
+in_no_zone [] s h = refl
+in_no_zone (i ∷ line) s h =
+    by_test (is_segment s i)
+    (λ y. absurd (grind (arith, nat_tests)))
+    (λ x. rw x (in_no_zone line s (grind (arith, nat_tests))))
 
 -- the place on a lone step
 pub last_alone : (len : Lengths) (steps : List DirSeg) (off : ℕ) → length steps ≡ 1 → off ≡ place_of_last len steps off

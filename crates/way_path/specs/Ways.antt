@@ -1,28 +1,15 @@
 -- Ways: what holds of one, what is asked of its places, and how it changes.
 use Rattle.std.specs.Prelude.{◌≡◌, ℕ, ℤ, pos, ◌+ℤ◌, ◌+◌, ◌-◌, ◌<◌, ◌≤◌, ◌^◌, Bool, true, false, ◌&&◌, List, [], ◌∷◌, ◌++◌, length, take, if◌then◌else◌, nat_eq, nat_lt, nat_le, Option, Some, None, Result, Ok, Err, ⊤}
 use Rattle.track_points.specs.declared.ids.DirSeg.{DirSeg}
+use Rattle.track_points.specs.declared.ids.ZoneId.{ZoneId}
 use Rattle.track_points.specs.declared.path.Path.{Path}
-use Rattle.track_points.specs.Points.{Lengths, mm_at, total, end_place, visits, no_segment_twice}
-use Rattle.definitions.specs.Track.{Line, seg_len, follows, joined}
+use Rattle.track_points.specs.Points.{Lengths, Point, mm_at, total, end_place, visits, no_segment_twice}
+use Rattle.definitions.specs.Track.{Line, owner, seg_len, zone_of, follows}
 use Rattle.definitions.specs.Limit.{last_step}
 use Rattle.definitions.specs.Steps.{path_to}
+use Rattle.definitions.specs.Ways.{PlainWay, chained, first_len, path_in_range}
 use Rattle.way_path.specs.declared.way.WayFault.{WayFault}
 use Rattle.way_path.specs.declared.way.WayFault.TheVariants.{NotJoined, Repeated, OutOfRange, Throats, Full}
-
--- a way: the number of the journey's steps before its path, the path, and the place where it ends
-pub record PlainWay : Type 0 where
-  pub mark : ℕ
-  pub path : Path
-  pub end : ℕ
-
--- each step follows the one before it
-abbrev pub chained : Line → List DirSeg → Bool
-chained line [] = true
-chained line (st ∷ steps) = joined line st steps
-
-abbrev pub first_len : Lengths → List DirSeg → ℕ
-first_len len [] = 0
-first_len len (st ∷ steps) = len st.seg.0
 
 -- what every way is
 pub record IsWay (way : PlainWay) : Type 0 where
@@ -60,12 +47,6 @@ FirstNotJoined line steps None = chained line steps ≡ true
 abbrev pub FirstRepeated : List DirSeg → Option ℕ → Type 0
 FirstRepeated steps (Some i) = RepeatedAt steps i
 FirstRepeated steps None = no_segment_twice steps ≡ true
-
--- a path has a step, its offsets are none outside the first and the last segment, and it begins before it ends
-abbrev pub path_in_range : Lengths → Path → Bool
-path_in_range len path =
-    nat_lt 0 (length path.steps.items) && (nat_le path.from (first_len len path.steps.items)
-    && (nat_le path.to (len (last_step path.steps.items).seg.0) && nat_lt path.from (end_place len path)))
 
 -- where a path in its range ends
 abbrev pub EndsAt : Lengths → Path → Option ℕ → Type 0
@@ -149,3 +130,12 @@ pub record Dropped (len : Lengths) (old new : PlainWay) (place mm : ℕ) : Type 
 -- whether a step has a cell between two of its offsets
 abbrev pub step_has : ℕ → DirSeg → ℕ → ℕ → ℕ → ℕ → Bool
 step_has len w lo hi s mm = nat_eq w.seg.0 s && (nat_lt mm len && (nat_le lo (mm_at len w.dir mm) && nat_lt (mm_at len w.dir mm) hi))
+
+-- whether a segment, and a point, is a zone's own; where no zone is named, each is taken
+abbrev pub segment_of : Line → Option ZoneId → ℕ → Bool
+segment_of line None s = true
+segment_of line (Some z) s = nat_eq (zone_of line s) z.0
+
+abbrev pub point_of : Line → Option ZoneId → Point → Bool
+point_of line None point = true
+point_of line (Some z) point = nat_eq (owner line point) z.0

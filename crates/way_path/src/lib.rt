@@ -4,7 +4,7 @@
 //! had before that step, so an offset on a step of the journey has a place on every way with that step.
 #![tactic(auto)]
 
-mod on_steps;
+pub mod on_steps;
 mod points;
 pub mod way;
 

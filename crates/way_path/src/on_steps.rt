@@ -2,9 +2,10 @@
 ghost use Rattle.std.specs.Prelude.{◌≡◌, ◌≤◌, ◌<◌, ◌+◌, ◌*◌, ◌++◌, length, drop};
 ghost use Rattle.arrayvec.specs.ArrayVec.{array_vec_len};
 ghost use Rattle.track_points.specs.Points.{total, place_of_last, steps_to, offset_to, visits};
-ghost use Rattle.definitions.specs.Track.{seg_len};
+ghost use Rattle.definitions.specs.Track.{seg_len, zone_of};
 ghost use Rattle.definitions.specs.Limit.{last_step};
-ghost use Rattle.way_path.specs.Ways.{first_len, FirstNotJoined, FirstRepeated, EndsAt, IsFront, IsRear};
+ghost use Rattle.definitions.specs.Ways.{first_len};
+ghost use Rattle.way_path.specs.Ways.{FirstNotJoined, FirstRepeated, EndsAt, IsFront, IsRear};
 
 use arrayvec::ArrayVec;
 use line_map::Line;
@@ -18,6 +19,18 @@ pub fn length_of(line: &Line, s: SegId) -> u32
 {
     if line.has_segment(s) {
         line.seg_len(s)
+    } else {
+        0
+    }
+}
+
+/// The zone of a segment; 0 where it is not declared.
+#[tactic(auto, using(crate::proofs::OnSteps::in_no_zone))]
+pub fn zone_of(line: &Line, s: SegId) -> u8
+    ensures { result ≡ zone_of line.now s.0 }
+{
+    if line.has_segment(s) {
+        line.zone_of(s).0
     } else {
         0
     }
@@ -88,7 +101,7 @@ pub fn repeated(steps: &[DirSeg]) -> Option<u8>
 /// The length of some steps, in mm.
 #[tactic(auto, unfolding(track_points::specs::Points::total))]
 pub fn total(line: &Line, steps: &[DirSeg]) -> u32
-    requires { length steps.now ≤ 24 }
+    requires { length steps.now ≤ 48 }
     ensures len { result ≡ total (seg_len line.now) steps.now }
     ensures most { result ≤ 10000000 * length steps.now }
 {

@@ -1,8 +1,8 @@
 //! Ways.
-ghost use Rattle.std.specs.Prelude.{◌≡◌, ◌<◌, ◌≤◌, ◌+◌, ◌^◌, length, IfOk, OnOk};
+ghost use Rattle.std.specs.Prelude.{◌≡◌, ◌<◌, ◌≤◌, ◌+◌, ◌^◌, length, ◌&&◌, nat_eq, IfOk, OnOk};
 ghost use Rattle.track_points.specs.Points.{Point, total, has_between};
 ghost use Rattle.track_points.specs.Sets.{set_has};
-ghost use Rattle.definitions.specs.Track.{seg_len};
+ghost use Rattle.definitions.specs.Track.{owner, seg_len};
 ghost use Rattle.way_path.specs.Ways.{IsWay, OnLine, EndsWithPath, Makes, IsFront, IsRear, place_of, Extends, ended_at, Dropped};
 
 use crate::on_steps::{
@@ -13,7 +13,7 @@ use crate::points::points_of;
 use line_map::Line;
 use std::marker::Model;
 use thiserror::Error;
-use track_points::{DirSeg, Path, PointSet};
+use track_points::{DirSeg, Path, PointSet, ZoneId};
 
 /// Why a way is refused.
 #[derive(Clone, Copy, PartialEq, Eq, Debug, Error)]
@@ -47,7 +47,8 @@ pub struct Way {
 }
 
 impl Model for Way {
-    ghost use Rattle.way_path.specs.Ways.{PlainWay, IsWay};
+    ghost use Rattle.definitions.specs.Ways.{PlainWay};
+    ghost use Rattle.way_path.specs.Ways.{IsWay};
 
     ghost Value = { PlainWay };
 
@@ -145,7 +146,17 @@ impl Way {
         requires end { hi ≤ self.now.end }
         ensures { (point : Point) → set_has result point ≡ has_between (seg_len line.now) self.now.path.steps.items lo hi point }
     {
-        points_of(line, self.path.steps.as_slice(), lo, hi)
+        points_of(line, None, self.path.steps.as_slice(), lo, hi)
+    }
+
+    /// The points between two places that are of a zone's own track.
+    pub fn points_in(&self, line: &Line, zone: ZoneId, lo: u32, hi: u32) -> PointSet
+        requires from { self.now.path.from ≤ lo }
+        requires order { lo ≤ hi }
+        requires end { hi ≤ self.now.end }
+        ensures { (point : Point) → set_has result point ≡ (nat_eq (owner line.now point) zone.0 && has_between (seg_len line.now) self.now.path.steps.items lo hi point) }
+    {
+        points_of(line, Some(zone), self.path.steps.as_slice(), lo, hi)
     }
 
     /// Adds a step, and leaves the end where it is. A fault is named by the index that the step would have, and leaves the

@@ -1,36 +1,13 @@
 -- The first place of an obstacle, in closed form.
-use Rattle.std.proofs.Common.{◌≡◌, ℕ, suc, zero, ◌+◌, ◌-◌, ◌<◌, ◌≤◌, max, Bool, true, false, ◌&&◌, ◌||◌, if◌then◌else◌, refl, arith, nat_eq, nat_lt, nat_le}
+use Rattle.std.proofs.Common.{◌≡◌, ℕ, ◌+◌, ◌-◌, ◌<◌, ◌≤◌, max, Bool, true, false, ◌&&◌, ◌||◌, if◌then◌else◌, refl, arith, nat_eq, nat_lt, nat_le}
 use Rattle.std.proofs.lemmas.Bool.Decides.{nat_tests}
 use Rattle.track_points.proofs.Some.{by_test}
 use Rattle.definitions.specs.declared.outcome.Obstacle.{Obstacle}
 use Rattle.definitions.specs.declared.outcome.Obstacle.TheVariants.{AskEnds, TrackEnds, Held, PathFull}
-use Rattle.definitions.specs.Limit.{first}
+use Rattle.way_laws.proofs.First.{IsFirst}
 use Rattle.zone_state.specs.declared.reach.Stop.{Stop}
 use Rattle.zone_state.specs.Zone.{nearer, first_stop}
 use Rattle.zone_state.proofs.Nearest.{IsNearest}
-
--- the number is the least below n that passes, or n
-pub record IsFirst (test : ℕ → Bool) (n d : ℕ) : Type 0 where
-  pub within : d ≤ n
-  pub there : d < n → test d ≡ true
-  pub before : (k : ℕ) → k < d → test k ≡ false
-
-pub first_is : (test : ℕ → Bool) (n : ℕ) → IsFirst test n (first test n)
-unfolding first
-first_is test zero = record { within = omega arith; there = λ h. absurd (omega arith); before = λ k h. absurd (omega arith) }
-first_is test (suc n) =
-    let rest = first_is (λ d. test (suc d)) n in
-    by_test (test 0)
-    (λ a. rw a record { within = omega arith; there = λ h. a; before = λ k h. absurd (omega arith) })
-    (λ b. rw b record { within = let w = rest.within in omega arith; there = λ h. rest.there (omega arith); before = below test n b rest.before })
-  where
-    below : (test : ℕ → Bool) (n : ℕ) → test 0 ≡ false → ((k : ℕ) → k < first (λ d. test (suc d)) n → test (suc k) ≡ false)
-        → (k : ℕ) → k < suc (first (λ d. test (suc d)) n) → test k ≡ false
-    below test n b f zero h = b
-    below test n b f (suc k) h = f k (omega arith)
-
-pub first_only : (test : ℕ → Bool) (n c d : ℕ) → IsFirst test n c → IsFirst test n d → c ≡ d
-first_only test n c d x y = grind (arith, x.before d, y.before c, x.there, y.there, x.within, y.within)
 
 pub first_same : (f g : ℕ → Bool) (n d : ℕ) → ((k : ℕ) → g k ≡ f k) → IsFirst f n d → IsFirst g n d
 first_same f g n d e i = record { within = i.within; there = λ h. rw (e d) (i.there h); before = λ k h. rw (e k) (i.before k h) }

@@ -1,126 +1,163 @@
--- The way of a train by its index.
-use Rattle.std.proofs.Common.{◌≡◌, ℕ, suc, zero, ◌+◌, ◌<◌, ◌≤◌, Bool, true, false, List, [], ◌∷◌, ◌++◌, length, get_or, Some, None, is_some, refl, sym, ap, ◌∙◌, arith, nat_eq, nat_lt}
+-- A train by its index, and what holds of all trains.
+use Rattle.std.proofs.Common.{◌≡◌, ℕ, suc, zero, ◌+◌, ◌<◌, ◌≤◌, Bool, true, false, List, [], ◌∷◌, ◌++◌, length, map, take, get_or, Result, Ok, Err, Some, None, is_some, refl, sym, ap, ◌∙◌, arith, nat_eq, nat_lt, nat_le}
 use Rattle.std.proofs.Math.ListN.{set}
 use Rattle.std.specs.List.{list_all, position, position_or_len}
 use Rattle.std.proofs.lemmas.Bool.Decides.{nat_tests}
-use Rattle.std.proofs.lemmas.List.{set-get_or}
+use Rattle.std.proofs.lemmas.List.{set-get_or, map-set}
 use Rattle.std.proofs.lemmas.List.Quantifiers.{position-Some}
 use Rattle.std.proofs.lemmas.List.Sums.{fails_before_first}
-use Rattle.std.proofs.lemmas.Grind.{common_steps}
 use Rattle.track_points.specs.declared.ids.DirSeg.{DirSeg}
-use Rattle.track_points.specs.declared.ids.TrainId.{TrainId}
-use Rattle.track_points.specs.Points.{Lengths, total, place_of_last, end_place}
+use Rattle.track_points.specs.Points.{Lengths, total, place_of_last, end_place, visits, no_segment_twice}
 use Rattle.track_points.proofs.Some.{by_test}
-use Rattle.plain_state.specs.declared.ZoneTrain.{ZoneTrain}
-use Rattle.plain_state.specs.Plain.{find_way, change_way, ways_asked, lengthened, entered_way}
-use Rattle.definitions.specs.Limit.{Reach, asked_way}
-use Rattle.zone_state.specs.Zone.{is_train, way_asked, way_fits}
-use Rattle.zone_state.proofs.OnSteps.{cut_within, cut_some}
+use Rattle.definitions.specs.Track.{Line, seg_len, joined}
+use Rattle.definitions.specs.Limit.{Reach, last_step}
+use Rattle.definitions.specs.Steps.{entry_path}
+use Rattle.definitions.specs.Ways.{PlainWay, path_in_range}
+use Rattle.way_path.specs.declared.way.WayFault.{WayFault}
+use Rattle.way_path.specs.declared.way.WayFault.TheVariants.{NotJoined, Repeated, OutOfRange, Throats, Full}
+use Rattle.way_path.specs.Ways.{Makes}
+use Rattle.plain_state.specs.ZoneTrain.{ZoneTrain}
+use Rattle.plain_state.specs.Zone.{find_way, change_way, ways_asked, lengthened}
+use Rattle.zone_state.specs.declared.trains.Controlled.{Controlled}
+use Rattle.zone_state.specs.Zone.{plain_train, is_train, counted, way_asked, path_fits, TrainFits, AllFit}
 
-found_at : (t : ℕ) (ways : List ZoneTrain) (i : ℕ) (d : ZoneTrain) → i < length ways → is_train t (get_or ways i d) ≡ true
-    → ((k : ℕ) → k < i → is_train t (get_or ways k d) ≡ false) → find_way t ways ≡ Some (get_or ways i d)
+found_at : (t : ℕ) (xs : List Controlled) (i : ℕ) (d : Controlled) → i < length xs → is_train t (get_or xs i d) ≡ true
+    → ((k : ℕ) → k < i → is_train t (get_or xs k d) ≡ false) → find_way t (map plain_train xs) ≡ Some (plain_train (get_or xs i d))
 unfolding find_way
 found_at t [] i d h p b = absurd (omega arith)
 found_at t (x ∷ xs) zero d h p b = rw p refl
 found_at t (x ∷ xs) (suc i) d h p b =
     let n : is_train t x ≡ false = b 0 (omega arith) in rw n (found_at t xs i d (omega arith) p (λ k l. b (suc k) (omega arith)))
 
-changed_at : (t : ℕ) (f : ZoneTrain → ZoneTrain) (ways : List ZoneTrain) (i : ℕ) (d : ZoneTrain) → i < length ways → is_train t (get_or ways i d) ≡ true
-    → ((k : ℕ) → k < i → is_train t (get_or ways k d) ≡ false) → change_way t f ways ≡ set ways i (f (get_or ways i d))
+changed_at : (t : ℕ) (f : ZoneTrain → ZoneTrain) (xs : List Controlled) (i : ℕ) (d y : Controlled) → i < length xs → is_train t (get_or xs i d) ≡ true
+    → ((k : ℕ) → k < i → is_train t (get_or xs k d) ≡ false) → plain_train y ≡ f (plain_train (get_or xs i d))
+    → change_way t f (map plain_train xs) ≡ map plain_train (set xs i y)
 unfolding change_way
-changed_at t f [] i d h p b = absurd (omega arith)
-changed_at t f (x ∷ xs) zero d h p b = rw p refl
-changed_at t f (x ∷ xs) (suc i) d h p b =
-    let n : is_train t x ≡ false = b 0 (omega arith) in rw n (ap (λ (y : List ZoneTrain). x ∷ y) (changed_at t f xs i d (omega arith) p (λ k l. b (suc k) (omega arith))))
+changed_at t f [] i d y h p b e = absurd (omega arith)
+changed_at t f (x ∷ xs) zero d y h p b e = rw p (ap (λ (z : ZoneTrain). z ∷ map plain_train xs) (sym e))
+changed_at t f (x ∷ xs) (suc i) d y h p b e =
+    let n : is_train t x ≡ false = b 0 (omega arith) in
+    rw n (ap (λ (ys : List ZoneTrain). plain_train x ∷ ys) (changed_at t f xs i d y (omega arith) p (λ k l. b (suc k) (omega arith)) e))
 
-pub found : (t : ℕ) (ways : List ZoneTrain) (i : ℕ) (d : ZoneTrain) → position (is_train t) ways ≡ Some i → find_way t ways ≡ Some (get_or ways i d)
-found t ways i d h = let p = position-Some (is_train t) ways i d h in found_at t ways i d p.0 p.1 p.2
+pub found : (t : ℕ) (xs : List Controlled) (i : ℕ) (d : Controlled) → position (is_train t) xs ≡ Some i → find_way t (map plain_train xs) ≡ Some (plain_train (get_or xs i d))
+found t xs i d h = let p = position-Some (is_train t) xs i d h in found_at t xs i d p.0 p.1 p.2
 
-pub found_is : (t : ℕ) (ways : List ZoneTrain) (i : ℕ) (x : ZoneTrain) → position (is_train t) ways ≡ Some i → x ≡ get_or ways i x → find_way t ways ≡ Some x
-found_is t ways i x h e = found t ways i x h ∙ ap Some (sym e)
+pub found_is : (t : ℕ) (xs : List Controlled) (i : ℕ) (x : Controlled) → position (is_train t) xs ≡ Some i → x ≡ get_or xs i x → find_way t (map plain_train xs) ≡ Some (plain_train x)
+found_is t xs i x h e = found t xs i x h ∙ ap (λ (y : Controlled). Some (plain_train y)) (sym e)
 
-pub changed : (t : ℕ) (f : ZoneTrain → ZoneTrain) (ways : List ZoneTrain) (i : ℕ) (d : ZoneTrain) → position (is_train t) ways ≡ Some i
-    → change_way t f ways ≡ set ways i (f (get_or ways i d))
-changed t f ways i d h = let p = position-Some (is_train t) ways i d h in changed_at t f ways i d p.0 p.1 p.2
+pub changed : (t : ℕ) (f : ZoneTrain → ZoneTrain) (xs : List Controlled) (i : ℕ) (d y : Controlled) → position (is_train t) xs ≡ Some i → plain_train y ≡ f (plain_train (get_or xs i d))
+    → change_way t f (map plain_train xs) ≡ map plain_train (set xs i y)
+changed t f xs i d y h e = let p = position-Some (is_train t) xs i d h in changed_at t f xs i d y p.0 p.1 p.2 e
 
-none_at : (t : ℕ) (ways : List ZoneTrain) → position (is_train t) ways ≡ None → (k : ℕ) (d : ZoneTrain) → k < length ways → is_train t (get_or ways k d) ≡ false
-none_at t ways h k d l =
-    by_test (nat_lt (position_or_len (is_train t) ways) (length ways))
+none_at : (t : ℕ) (xs : List Controlled) → position (is_train t) xs ≡ None → (k : ℕ) (d : Controlled) → k < length xs → is_train t (get_or xs k d) ≡ false
+none_at t xs h k d l =
+    by_test (nat_lt (position_or_len (is_train t) xs) (length xs))
     (λ y. let q = rw y at h in absurd (cc))
-    (λ n. fails_before_first (is_train t) ways k d (grind (arith, nat_tests)))
+    (λ n. fails_before_first (is_train t) xs k d (grind (arith, nat_tests)))
 
-absent_at : (t : ℕ) (ways : List ZoneTrain) → ((k : ℕ) (d : ZoneTrain) → k < length ways → is_train t (get_or ways k d) ≡ false) → find_way t ways ≡ None
+absent_at : (t : ℕ) (xs : List Controlled) → ((k : ℕ) (d : Controlled) → k < length xs → is_train t (get_or xs k d) ≡ false) → find_way t (map plain_train xs) ≡ None
 unfolding find_way
 absent_at t [] h = refl
 absent_at t (x ∷ xs) h = let n : is_train t x ≡ false = h 0 x (omega arith) in rw n (absent_at t xs (λ k d l. h (suc k) d (omega arith)))
 
-kept_at : (t : ℕ) (f : ZoneTrain → ZoneTrain) (ways : List ZoneTrain) → ((k : ℕ) (d : ZoneTrain) → k < length ways → is_train t (get_or ways k d) ≡ false) → change_way t f ways ≡ ways
+kept_at : (t : ℕ) (f : ZoneTrain → ZoneTrain) (xs : List Controlled) → ((k : ℕ) (d : Controlled) → k < length xs → is_train t (get_or xs k d) ≡ false)
+    → change_way t f (map plain_train xs) ≡ map plain_train xs
 unfolding change_way
 kept_at t f [] h = refl
 kept_at t f (x ∷ xs) h =
-    let n : is_train t x ≡ false = h 0 x (omega arith) in rw n (ap (λ (y : List ZoneTrain). x ∷ y) (kept_at t f xs (λ k d l. h (suc k) d (omega arith))))
+    let n : is_train t x ≡ false = h 0 x (omega arith) in
+    rw n (ap (λ (ys : List ZoneTrain). plain_train x ∷ ys) (kept_at t f xs (λ k d l. h (suc k) d (omega arith))))
 
-pub absent : (t : ℕ) (ways : List ZoneTrain) → position (is_train t) ways ≡ None → find_way t ways ≡ None
-absent t ways h = absent_at t ways (none_at t ways h)
+pub absent : (t : ℕ) (xs : List Controlled) → position (is_train t) xs ≡ None → find_way t (map plain_train xs) ≡ None
+absent t xs h = absent_at t xs (none_at t xs h)
 
-pub kept : (t : ℕ) (f : ZoneTrain → ZoneTrain) (ways : List ZoneTrain) → position (is_train t) ways ≡ None → change_way t f ways ≡ ways
-kept t f ways h = kept_at t f ways (none_at t ways h)
+pub kept : (t : ℕ) (f : ZoneTrain → ZoneTrain) (xs : List Controlled) → position (is_train t) xs ≡ None → change_way t f (map plain_train xs) ≡ map plain_train xs
+kept t f xs h = kept_at t f xs (none_at t xs h)
 
--- the ways behind an ask, by the index of its train's
-pub asked_at : (len : Lengths) (t : ℕ) (asked : List DirSeg) (reach : Reach) (ways : List ZoneTrain) (i : ℕ) (d : ZoneTrain) → position (is_train t) ways ≡ Some i
-    → ways_asked len t asked reach ways ≡ set ways i (way_asked len asked reach (get_or ways i d))
-asked_at len t asked reach ways i d h =
+-- the trains behind an ask, by the index of its train
+pub asked_at : (len : Lengths) (t : ℕ) (asked : List DirSeg) (reach : Reach) (xs : List Controlled) (i : ℕ) (d y : Controlled) → position (is_train t) xs ≡ Some i
+    → plain_train y ≡ way_asked len asked reach (plain_train (get_or xs i d)) → ways_asked len t asked reach (map plain_train xs) ≡ map plain_train (set xs i y)
+asked_at len t asked reach xs i d y h e =
     by_test (nat_eq reach.distance 0)
-    (λ y. rw y (sym (set-get_or ways i d)))
-    (λ n. rw n (changed t (lengthened len asked reach.distance) ways i d h))
+    (λ z. let s : plain_train y ≡ plain_train (get_or xs i d) = rw z at e in
+    rw z (sym (map-set plain_train xs i y ∙ ap (λ (w : ZoneTrain). set (map plain_train xs) i w) s ∙ sym (map-set plain_train xs i (get_or xs i d))
+    ∙ ap (λ (ys : List Controlled). map plain_train ys) (set-get_or xs i d))))
+    (λ n. rw n (changed t (lengthened len asked reach.distance) xs i d y h (rw n at e)))
 
-pub known : (t : ℕ) (ways : List ZoneTrain) (i : ℕ) → position (is_train t) ways ≡ Some i → is_some (find_way t ways) ≡ true
+pub known : (t : ℕ) (xs : List Controlled) (i : ℕ) → position (is_train t) xs ≡ Some i → is_some (find_way t (map plain_train xs)) ≡ true
 known t [] i h = absurd (cc)
 known t (x ∷ xs) i h = rw (found t (x ∷ xs) i x h) refl
 
-pub unknown : (t : ℕ) (ways : List ZoneTrain) → position (is_train t) ways ≡ None → is_some (find_way t ways) ≡ false
-unknown t ways h = rw (absent t ways h) refl
+pub unknown : (t : ℕ) (xs : List Controlled) → position (is_train t) xs ≡ None → is_some (find_way t (map plain_train xs)) ≡ false
+unknown t xs h = rw (absent t xs h) refl
 
--- one way more at the end
-pub all_more : (test : ZoneTrain → Bool) (ways : List ZoneTrain) (x : ZoneTrain) → list_all test ways ≡ true → test x ≡ true → list_all test (ways ++ x ∷ []) ≡ true
-all_more test [] x h e = rw e refl
-all_more test (y ∷ ys) x h e = let r = all_more test ys x (grind arith) e in grind arith
+-- what holds of all trains
 
--- a way at its entry ends on its step
-pub entry_fits : (len : Lengths) (t : TrainId) (step : DirSeg) → way_fits len (entered_way t (len step.seg.0) step) ≡ true
-unfolding place_of_last total
-entry_fits len t step = grind (arith, nat_tests)
+pub fit_one : (line : Line) (z : ℕ) (xs : List Controlled) (i : ℕ) (d : Controlled) → i < length xs → AllFit line z xs → TrainFits line z (get_or xs i d)
+unfolding AllFit
+fit_one line z [] i d h f = absurd (omega arith)
+fit_one line z (x ∷ xs) zero d h f = f.0
+fit_one line z (x ∷ xs) (suc i) d h f = fit_one line z xs i d (omega arith) f.1
 
--- a test that every way passes
-pub passes : (test : ZoneTrain → Bool) (t : ℕ) (ways : List ZoneTrain) (x : ZoneTrain) → list_all test ways ≡ true → find_way t ways ≡ Some x → test x ≡ true
-unfolding find_way
-passes test t [] x h e = absurd (cc)
-passes test t (y ∷ ys) x h e =
-    by_test (nat_eq y.id.0 t)
-    (λ a. let q = rw a at e in let s : y ≡ x = cc in let r : test y ≡ true = grind arith in rw (← s) r)
-    (λ b. let q = rw b at e in passes test t ys x (grind arith) q)
+pub fit_more : (line : Line) (z : ℕ) (xs : List Controlled) (x : Controlled) → AllFit line z xs → TrainFits line z x → AllFit line z (xs ++ x ∷ [])
+unfolding AllFit
+fit_more line z [] x f h = (h, tt)
+fit_more line z (y ∷ ys) x f h = (f.0, fit_more line z ys x f.1 h)
 
-pub all_set : (test : ZoneTrain → Bool) (ways : List ZoneTrain) (i : ℕ) (x : ZoneTrain) → list_all test ways ≡ true → test x ≡ true → list_all test (set ways i x) ≡ true
-all_set test [] i x h e = refl
-all_set test (y ∷ ys) zero x h e = rw e (grind arith)
-all_set test (y ∷ ys) (suc i) x h e = let r = all_set test ys i x (grind arith) e in grind arith
+pub fit_set : (line : Line) (z : ℕ) (xs : List Controlled) (i : ℕ) (x : Controlled) → AllFit line z xs → TrainFits line z x → AllFit line z (set xs i x)
+unfolding AllFit
+fit_set line z [] i x f h = tt
+fit_set line z (y ∷ ys) zero x f h = (h, f.1)
+fit_set line z (y ∷ ys) (suc i) x f h = (f.0, fit_set line z ys i x f.1 h)
 
-pub all_changed : (test : ZoneTrain → Bool) (t : ℕ) (f : ZoneTrain → ZoneTrain) (ways : List ZoneTrain) → ((x : ZoneTrain) → test x ≡ true → test (f x) ≡ true)
-    → list_all test ways ≡ true → list_all test (change_way t f ways) ≡ true
-unfolding change_way
-all_changed test t f [] k h = refl
-all_changed test t f (y ∷ ys) k h =
-    by_test (nat_eq y.id.0 t)
-    (λ a. rw a (let r = k y (grind arith) in grind arith))
-    (λ b. rw b (let r = all_changed test t f ys k (grind arith) in grind arith))
+pub fit_none : (line : Line) (z : ℕ) (xs : List Controlled) → xs ≡ [] → AllFit line z xs
+unfolding AllFit
+fit_none line z xs e = rw e tt
 
--- a lengthened way ends on its last step
-pub lengthened_fits : (len : Lengths) (asked : List DirSeg) (distance : ℕ) (x : ZoneTrain) → way_fits len x ≡ true
-    → end_place len x.path + distance ≤ total len (asked_way x.path.steps.items asked)
-    → way_fits len (lengthened len asked distance x) ≡ true
-lengthened_fits len asked distance x fits h =
-    let s : 0 < length x.path.steps.items = grind (arith, nat_tests) in
-    let l : 0 < length (asked_way x.path.steps.items asked) = grind (arith, common_steps) in
-    let a = cut_some len (asked_way x.path.steps.items asked) (end_place len x.path + distance) l in
-    let b = cut_within len (asked_way x.path.steps.items asked) (end_place len x.path + distance) h in
-    grind (arith, nat_tests)
+pub fit_counted : (line : Line) (z number : ℕ) (x : Controlled) → TrainFits line z x → TrainFits line z (counted number x)
+fit_counted line z number x f = record {
+  way = f.way;
+  on_line = f.on_line;
+  ends = f.ends;
+  behind = f.behind;
+  ordered = f.ordered;
+  ahead = f.ahead;
+  hold = f.hold;
+}
+
+-- a test that every train passes
+pub passes : (test : ZoneTrain → Bool) (xs : List Controlled) (i : ℕ) (d : Controlled) → i < length xs → list_all test (map plain_train xs) ≡ true → test (plain_train (get_or xs i d)) ≡ true
+passes test [] i d l h = absurd (omega arith)
+passes test (x ∷ xs) zero d l h = grind arith
+passes test (x ∷ xs) (suc i) d l h = passes test xs i d (omega arith) (grind arith)
+
+-- a train that fits, found
+pub fit_found : (line : Line) (z : ℕ) (xs : List Controlled) (i : ℕ) (x : Controlled) → i < length xs → x ≡ get_or xs i x → AllFit line z xs → TrainFits line z x
+fit_found line z xs i x l e f = rw e (fit_one line z xs i x l f)
+
+-- a train that fits has a path that fits
+pub fit_path : (line : Line) (z : ℕ) (x : Controlled) → TrainFits line z x → path_fits (seg_len line) x.way.path ≡ true
+fit_path line z x f =
+    let s = f.way.some in let w = f.on_line.within in let e = f.ends in
+    let a : nat_lt 0 (length x.way.path.steps.items) ≡ true = grind (arith, nat_tests) in
+    let b : nat_le (end_place (seg_len line) x.way.path) (total (seg_len line) x.way.path.steps.items) ≡ true = let le : end_place (seg_len line) x.way.path ≤ total (seg_len line) x.way.path.steps.items = omega arith in grind (arith, nat_tests) in
+    rw (a, b) refl
+
+-- the path over a portal's segment makes a way
+first_of_one : (step : DirSeg) (i : ℕ) → i < length (step ∷ []) → take (i + 1) (step ∷ []) ≡ step ∷ []
+first_of_one step zero h = refl
+first_of_one step (suc i) h = absurd (omega arith)
+
+pub entry_in_range : (line : Line) (step : DirSeg) (room : ℕ) → room ≡ seg_len line step.seg.0 → 0 < room → path_in_range (seg_len line) (entry_path step room) ≡ true
+unfolding last_step place_of_last
+entry_in_range line step room e h = grind (arith, nat_tests)
+
+pub entry_makes : (line : Line) (step : DirSeg) (room : ℕ) (r : Result PlainWay WayFault) → room ≡ seg_len line step.seg.0 → 0 < room → Makes line 0 (entry_path step room) r
+    → (way : PlainWay) × (r ≡ Ok way)
+unfolding joined no_segment_twice visits
+entry_makes line step room (Ok way) e h m = (way, refl)
+entry_makes line step room (Err (NotJoined i)) e h m = let w = rw (first_of_one step i m.there) at m.with_it in absurd (let z : true ≡ false = w in cc)
+entry_makes line step room (Err (Repeated i)) e h m = let w = rw (first_of_one step i m.1.there) at m.1.with_it in absurd (let z : true ≡ false = w in cc)
+entry_makes line step room (Err OutOfRange) e h m = let r = entry_in_range line step room e h in let f = m.2 in absurd (cc)
+entry_makes line step room (Err Throats) e h m = absurd m
+entry_makes line step room (Err Full) e h m = absurd m

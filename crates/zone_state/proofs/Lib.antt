@@ -1,7 +1,7 @@
-pub mod BySteps
 pub mod Nearest
 pub mod Away
 pub mod First
 pub mod OnSteps
 pub mod Reaches
 pub mod Found
+pub mod Shown

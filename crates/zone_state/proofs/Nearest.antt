@@ -9,10 +9,11 @@ use Rattle.track_points.proofs.Some.{by_test, same_bool, some_at, some_found}
 use Rattle.track_points.proofs.Places.{cell_here, cell_beyond}
 use Rattle.definitions.specs.Track.{Line, seg_len, zone_of}
 use Rattle.definitions.specs.Limit.{passes}
-use Rattle.plain_state.specs.declared.ZoneTrain.{ZoneTrain}
-use Rattle.plain_state.specs.Plain.{held_else_plain, barring_plain, way_on}
+use Rattle.plain_state.specs.ZoneTrain.{ZoneTrain}
+use Rattle.plain_state.specs.Zone.{held_else_plain, barring_plain, way_on}
 use Rattle.zone_state.specs.Held.{cells_on, first_in, near_step, near_steps, near_way, near_ways, near_on, first_held}
-use Rattle.zone_state.proofs.BySteps.{step_has, points_none, cells_first}
+use Rattle.way_path.specs.Ways.{step_has}
+use Rattle.way_path.proofs.BySteps.{points_none, cells_first}
 
 -- the least number from `from` on and below n that passes, or n
 pub record IsNearest (test : ℕ → Bool) (n from q : ℕ) : Type 0 where
@@ -82,8 +83,8 @@ steps_are len (w ∷ steps) lo hi st from =
     (nearest_two _ _ _ _ _ _ (step_is len w lo hi st from) (steps_are len steps (lo - len w.seg.0) (hi - len w.seg.0) st from))
 
 pub way_is : (len : Lengths) (x : ZoneTrain) (st : DirSeg) (from : ℕ)
-    → IsNearest (λ k. path_has len x.path (cell_on len st k)) (len st.seg.0) from (near_way len x st from)
-way_is len x st from = steps_are len x.path.steps.items x.path.from (end_place len x.path) st from
+    → IsNearest (λ k. path_has len x.way.path (cell_on len st k)) (len st.seg.0) from (near_way len x st from)
+way_is len x st from = steps_are len x.way.path.steps.items x.way.path.from (end_place len x.way.path) st from
 
 ways_are : (len : Lengths) (t : ℕ) (ways : List ZoneTrain) (st : DirSeg) (from : ℕ)
     → IsNearest (λ k. held_else_plain len ways t (cell_on len st k)) (len st.seg.0) from (near_ways len t ways st from)

@@ -1,46 +1,22 @@
--- Steps and places on them.
-use Rattle.std.proofs.Common.{◌≡◌, ℕ, suc, zero, ◌-◌, ◌<◌, ◌≤◌, false, List, [], ◌∷◌, ◌++◌, length, take, refl, arith, nat_le}
+-- Steps, the first of them, and ways that are lengthened by more of them.
+use Rattle.std.proofs.Common.{◌≡◌, ℕ, suc, zero, ◌+◌, ◌-◌, ◌<◌, ◌≤◌, ◌^◌, true, false, ◌&&◌, List, [], ◌∷◌, ◌++◌, length, take, Result, Ok, Err, append_assoc, refl, ap, ◌∙◌, arith, nat_le}
+use Rattle.std.specs.Prelude.{⊤}
+use Rattle.std.proofs.Math.Seq.{take-append_seam}
+use Rattle.std.proofs.lemmas.List.{append-nil, take_all}
 use Rattle.std.proofs.lemmas.Bool.Decides.{nat_tests}
 use Rattle.track_points.specs.declared.ids.DirSeg.{DirSeg}
-use Rattle.track_points.specs.Points.{Lengths, total, place_of_last, steps_to, offset_to}
+use Rattle.track_points.specs.Points.{Lengths, total, end_place, steps_to, offset_to, visits, no_segment_twice}
 use Rattle.track_points.proofs.Some.{by_test}
 use Rattle.definitions.specs.declared.item.Item.{Item}
-use Rattle.definitions.specs.Track.{seg_len, zone_of, is_segment, has_segment}
-use Rattle.definitions.specs.Limit.{last_step}
-
-pub undeclared : (line : List Item) (s : ℕ) → has_segment line s ≡ false → seg_len line s ≡ 0
-unfolding seg_len
-undeclared [] s h = refl
-undeclared (i ∷ line) s h =
-    by_test (is_segment s i)
-    (λ y. absurd (grind (arith, nat_tests)))
-    (λ x. rw x (undeclared line s (grind (arith, nat_tests))))
-
-pub in_no_zone : (line : List Item) (s : ℕ) → has_segment line s ≡ false → zone_of line s ≡ 0
-unfolding zone_of
-in_no_zone [] s h = refl
-in_no_zone (i ∷ line) s h =
-    by_test (is_segment s i)
-    (λ y. absurd (grind (arith, nat_tests)))
-    (λ x. rw x (in_no_zone line s (grind (arith, nat_tests))))
-
--- up to a place that is not behind the end of the first n steps there are at most n
-pub few_steps : (len : Lengths) (asked : List DirSeg) (n p : ℕ) → p ≤ total len (take n asked) → 0 < n → length (steps_to len asked p) ≤ n
-unfolding steps_to total
-few_steps len [] n p h k = omega arith
-few_steps len (st ∷ asked) zero p h k = absurd (omega arith)
-few_steps len (st ∷ asked) (suc zero) p h k =
-    by_test (nat_le p (len st.seg.0))
-    (λ y. rw y (omega arith))
-    (λ x. absurd (grind (arith, nat_tests)))
-few_steps len (st ∷ asked) (suc (suc n)) p h k =
-    by_test (nat_le p (len st.seg.0))
-    (λ y. rw y (omega arith))
-    (λ x. let gt : len st.seg.0 < p = grind (arith, nat_tests) in
-    let r = few_steps len asked (suc n) (p - len st.seg.0) (omega arith) (omega arith) in rw x (omega arith))
-
-pub few_steps_to : (len : Lengths) (asked : List DirSeg) (p : ℕ) → p ≤ total len (take 24 asked) → length (steps_to len asked p) ≤ 24
-few_steps_to len asked p h = few_steps len asked 24 p h (omega arith)
+use Rattle.definitions.specs.Track.{follows, joined}
+use Rattle.definitions.specs.Limit.{last_step, asked_way}
+use Rattle.definitions.specs.Ways.{PlainWay}
+use Rattle.way_path.specs.declared.way.WayFault.{WayFault}
+use Rattle.way_path.specs.declared.way.WayFault.TheVariants.{NotJoined, Repeated, OutOfRange, Throats, Full}
+use Rattle.way_path.specs.Ways.{Extends, ended_at}
+use Rattle.way_laws.proofs.Joined.{once_front}
+use Rattle.way_path.proofs.OnSteps.{once_append}
+use Rattle.zone_state.specs.Zone.{with_steps, longer_way}
 
 -- the first steps are no longer than all
 pub total_take : (len : Lengths) (asked : List DirSeg) (n : ℕ) → total len (take n asked) ≤ total len asked
@@ -57,39 +33,91 @@ total_within len [] more n h = omega arith
 total_within len (st ∷ steps) more zero h = absurd (omega arith)
 total_within len (st ∷ steps) more (suc n) h = let r = total_within len steps more n (omega arith) in omega arith
 
--- the place on a lone step
-pub last_alone : (len : Lengths) (steps : List DirSeg) (off : ℕ) → length steps ≡ 1 → off ≡ place_of_last len steps off
-unfolding place_of_last
-last_alone len [] off h = absurd (omega arith)
-last_alone len (st ∷ []) off h = refl
-last_alone len (st ∷ next ∷ steps) off h = absurd (omega arith)
-
--- an offset within the last step is a place within the steps
-pub last_within : (len : Lengths) (asked : List DirSeg) (to : ℕ) → 0 < length asked → to ≤ len (last_step asked).seg.0 → place_of_last len asked to ≤ total len asked
-unfolding total place_of_last last_step
-last_within len [] to h k = absurd (omega arith)
-last_within len (st ∷ []) to h k = omega arith
-last_within len (st ∷ next ∷ asked) to h k = let r = last_within len (next ∷ asked) to (omega arith) k in omega arith
-
--- the steps up to a place hold it
-pub cut_within : (len : Lengths) (asked : List DirSeg) (p : ℕ) → p ≤ total len asked → place_of_last len (steps_to len asked p) (offset_to len asked p) ≤ total len (steps_to len asked p)
-unfolding total place_of_last steps_to offset_to
-cut_within len [] p h = h
-cut_within len (st ∷ []) p h =
+-- up to a place of the first steps, all steps come to the same
+pub steps_first : (len : Lengths) (asked : List DirSeg) (n p : ℕ) → p ≤ total len (take n asked) → 0 < n → steps_to len (take n asked) p ≡ steps_to len asked p
+unfolding steps_to total
+steps_first len asked zero p h k = absurd (omega arith)
+steps_first len [] (suc n) p h k = refl
+steps_first len (st ∷ asked) (suc zero) p h k =
     by_test (nat_le p (len st.seg.0))
-    (λ y. rw y (grind (arith, nat_tests)))
+    (λ y. rw y refl)
     (λ x. absurd (grind (arith, nat_tests)))
-cut_within len (st ∷ next ∷ asked) p h =
+steps_first len (st ∷ asked) (suc (suc n)) p h k =
     by_test (nat_le p (len st.seg.0))
-    (λ y. rw y (grind (arith, nat_tests)))
-    (λ x. let gt : len st.seg.0 < p = grind (arith, nat_tests) in
-    let r = cut_within len (next ∷ asked) (p - len st.seg.0) (omega arith) in
-    rw x (by_test (nat_le (p - len st.seg.0) (len next.seg.0))
-    (λ y2. rw y2 (let t : p - len st.seg.0 ≤ len next.seg.0 = grind (arith, nat_tests) in omega arith))
-    (λ x2. rw x2 (let q = rw x2 at r in omega arith))))
+    (λ y. rw y refl)
+    (λ x. rw x (ap (λ xs. st ∷ xs) (steps_first len asked (suc n) (p - len st.seg.0) (omega arith) (omega arith))))
 
--- a cut has a step
-pub cut_some : (len : Lengths) (asked : List DirSeg) (p : ℕ) → 0 < length asked → 0 < length (steps_to len asked p)
-unfolding steps_to
-cut_some len [] p h = absurd (omega arith)
-cut_some len (st ∷ asked) p h = by_test (nat_le p (len st.seg.0)) (λ y. rw y (omega arith)) (λ x. rw x (omega arith))
+pub offset_first : (len : Lengths) (asked : List DirSeg) (n p : ℕ) → p ≤ total len (take n asked) → 0 < n → offset_to len (take n asked) p ≡ offset_to len asked p
+unfolding offset_to total
+offset_first len asked zero p h k = absurd (omega arith)
+offset_first len [] (suc n) p h k = refl
+offset_first len (st ∷ asked) (suc zero) p h k =
+    by_test (nat_le p (len st.seg.0))
+    (λ y. rw y refl)
+    (λ x. absurd (grind (arith, nat_tests)))
+offset_first len (st ∷ asked) (suc (suc n)) p h k =
+    by_test (nat_le p (len st.seg.0))
+    (λ y. rw y refl)
+    (λ x. rw x (offset_first len asked (suc n) (p - len st.seg.0) (omega arith) (omega arith)))
+
+-- a way with more steps behind its own
+
+pub last_behind : (steps : List DirSeg) (st : DirSeg) → last_step (steps ++ st ∷ []) ≡ st
+unfolding last_step
+last_behind [] st = refl
+last_behind (x ∷ []) st = refl
+last_behind (x ∷ y ∷ steps) st = last_behind (y ∷ steps) st
+
+-- with 24 steps, and with no more of them, it stays
+pub stays_full : (way : PlainWay) (more : List DirSeg) → length way.path.steps.items ≡ 24 → way ≡ with_steps way (take 24 (way.path.steps.items ++ more))
+stays_full way more h = let e = rw h at (take-append_seam way.path.steps.items more) in rw e refl
+
+pub stays_bare : (way : PlainWay) (more : List DirSeg) → length way.path.steps.items ≤ 24 → length more < 1 → way ≡ with_steps way (take 24 (way.path.steps.items ++ more))
+stays_bare way [] l h = rw (append-nil way.path.steps.items, take_all 24 way.path.steps.items l) refl
+stays_bare way (x ∷ more) l h = absurd (omega arith)
+
+-- a step that follows
+pub joined_step : (line : List Item) (a st : DirSeg) (more rest : List DirSeg) → more ≡ st ∷ rest → joined line a more ≡ true → (follows line a st ≡ true) × (joined line st rest ≡ true)
+unfolding joined
+joined_step line a st more rest e h =
+    let t : (follows line a st && joined line st rest) ≡ true = rw e at h in (grind arith, grind arith)
+
+pub once_step : (steps more rest : List DirSeg) (st : DirSeg) → more ≡ st ∷ rest → no_segment_twice (steps ++ more) ≡ true
+    → (visits steps st.seg.0 ≡ false) × (no_segment_twice ((steps ++ st ∷ []) ++ rest) ≡ true)
+once_step steps more rest st e h =
+    let t : no_segment_twice (steps ++ st ∷ rest) ≡ true = rw e at h in
+    let u : no_segment_twice ((steps ++ st ∷ []) ++ rest) ≡ true = rw (append_assoc steps (st ∷ []) rest) t in
+    let f = rw (once_append steps st) at (once_front (steps ++ st ∷ []) rest u) in
+    (grind arith, u)
+
+pub one_more : (old mid new : PlainWay) (st : DirSeg) (more rest : List DirSeg) → more ≡ st ∷ rest → mid ≡ with_steps old (old.path.steps.items ++ st ∷ [])
+    → new ≡ with_steps mid (take 24 (mid.path.steps.items ++ rest)) → new ≡ with_steps old (take 24 (old.path.steps.items ++ more))
+one_more old mid new st more rest e m n = n ∙ rw (m, e, append_assoc old.path.steps.items (st ∷ []) rest) refl
+
+-- where nothing is against a further step, it is added
+pub extends_ok : (line : List Item) (old new : PlainWay) (st : DirSeg) (r : Result ⊤ WayFault) → Extends line old st r new → length old.path.steps.items < 24
+    → follows line (last_step old.path.steps.items) st ≡ true → visits old.path.steps.items st.seg.0 ≡ false
+    → (r ≡ Ok tt) × (new ≡ with_steps old (old.path.steps.items ++ st ∷ []))
+extends_ok line old new st (Ok tt) x l f v = (refl, x.3)
+extends_ok line old new st (Err Full) x l f v = let a = x.0 in absurd (omega arith)
+extends_ok line old new st (Err (NotJoined i)) x l f v = let a = x.1 in absurd (grind arith)
+extends_ok line old new st (Err (Repeated i)) x l f v = let a = x.2 in absurd (grind arith)
+extends_ok line old new st (Err OutOfRange) x l f v = absurd x
+extends_ok line old new st (Err Throats) x l f v = absurd x
+
+pub goes_on : (line : List Item) (old mid : PlainWay) (st : DirSeg) (more rest : List DirSeg) → more ≡ st ∷ rest → mid ≡ with_steps old (old.path.steps.items ++ st ∷ [])
+    → old.mark + 24 < 2 ^ 32 → joined line (last_step old.path.steps.items) more ≡ true → no_segment_twice (old.path.steps.items ++ more) ≡ true
+    → (mid.mark + 24 < 2 ^ 32) × (joined line (last_step mid.path.steps.items) rest ≡ true) × (no_segment_twice (mid.path.steps.items ++ rest) ≡ true)
+goes_on line old mid st more rest e m k j o = rw m (
+  k,
+  rw (last_behind old.path.steps.items st) ((joined_step line (last_step old.path.steps.items) st more rest e j).1),
+  (once_step old.path.steps.items more rest st e o).1,
+)
+
+-- a way lengthened by its first 24 steps ends as by all of them
+pub longer_is : (len : Lengths) (way new : PlainWay) (asked : List DirSeg) (d place : ℕ) → place ≡ end_place len way.path + d
+    → new ≡ ended_at len (with_steps way (take 24 (asked_way way.path.steps.items asked))) place
+    → end_place len way.path + d ≤ total len (take 24 (asked_way way.path.steps.items asked)) → new ≡ longer_way len asked d way
+longer_is len way new asked d place p n w =
+    let whole = asked_way way.path.steps.items asked in
+    n ∙ rw (p, steps_first len whole 24 (end_place len way.path + d) w (omega arith), offset_first len whole 24 (end_place len way.path + d) w (omega arith)) refl

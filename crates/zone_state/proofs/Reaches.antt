@@ -8,14 +8,16 @@ use Rattle.track_points.specs.Points.{Lengths, total, place_of_last, end_place}
 use Rattle.track_points.proofs.Places.{cell_none}
 use Rattle.definitions.specs.Track.{Line, seg_len}
 use Rattle.definitions.specs.Limit.{Ask, reach_on, distance_on, obstructed, least_standing, last_step, asked_way, further}
-use Rattle.plain_state.specs.declared.ZoneTrain.{ZoneTrain}
-use Rattle.plain_state.specs.Plain.{barring_plain}
+use Rattle.plain_state.specs.ZoneTrain.{ZoneTrain}
+use Rattle.plain_state.specs.Zone.{barring_plain}
 use Rattle.zone_state.specs.declared.reach.Stop.{Stop}
 use Rattle.zone_state.specs.Zone.{stop_on, stop_reach, path_fits}
 use Rattle.zone_state.specs.Held.{first_held}
 use Rattle.zone_state.proofs.Nearest.{held_at, first_held_is}
-use Rattle.zone_state.proofs.First.{first_is, first_only, stop_is, least_is, stop_near, stop_from}
-use Rattle.zone_state.proofs.OnSteps.{total_take, total_within, last_within}
+use Rattle.way_laws.proofs.First.{first_is, first_only}
+use Rattle.zone_state.proofs.First.{stop_is, least_is, stop_near, stop_from}
+use Rattle.way_path.proofs.OnSteps.{last_within}
+use Rattle.zone_state.proofs.OnSteps.{total_take, total_within}
 
 pub stop_after : (len : Lengths) (asked : List DirSeg) (limit to h : ℕ) → limit ≤ (stop_on len asked limit to h).place
 stop_after len asked limit to h =

@@ -5,7 +5,7 @@ use Rattle.track_points.specs.declared.ids.Dir.TheVariants.{Up, Down}
 use Rattle.track_points.specs.declared.ids.DirSeg.{DirSeg}
 use Rattle.track_points.specs.Points.{Lengths, end_place}
 use Rattle.definitions.specs.Track.{Line, seg_len, zone_of}
-use Rattle.plain_state.specs.declared.ZoneTrain.{ZoneTrain}
+use Rattle.plain_state.specs.ZoneTrain.{ZoneTrain}
 use Rattle.zone_state.specs.declared.held.Cells.{Cells}
 
 -- the cells that a step passes from one offset to below another
@@ -32,7 +32,7 @@ near_steps len [] lo hi st from = len st.seg.0
 near_steps len (w ∷ steps) lo hi st from = min (near_step len w lo hi st from) (near_steps len steps (lo - len w.seg.0) (hi - len w.seg.0) st from)
 
 abbrev pub near_way : Lengths → ZoneTrain → DirSeg → ℕ → ℕ
-near_way len x st from = near_steps len x.path.steps.items x.path.from (end_place len x.path) st from
+near_way len x st from = near_steps len x.way.path.steps.items x.way.path.from (end_place len x.way.path) st from
 
 -- the same of the ways of the other trains
 unfoldable pub near_ways : Lengths → ℕ → List ZoneTrain → DirSeg → ℕ → ℕ

@@ -1,27 +1,76 @@
 -- The first obstacle in closed form, and what a zone keeps.
-use Rattle.std.specs.Prelude.{ℕ, List, [], ◌∷◌, ◌-◌, length, take, if◌then◌else◌, Bool, ◌&&◌, nat_eq, nat_lt, nat_le, max}
+use Rattle.std.specs.Prelude.{◌≡◌, ℕ, List, [], ◌∷◌, ◌+◌, ◌-◌, ◌<◌, ◌≤◌, length, map, take, if◌then◌else◌, Bool, true, ◌&&◌, nat_eq, nat_lt, nat_le, max, Option, Some, None, ⊤}
 use Rattle.track_points.specs.declared.ids.DirSeg.{DirSeg}
-use Rattle.std.specs.List.{list_all}
+use Rattle.track_points.specs.declared.ids.TrainId.{TrainId}
 use Rattle.track_points.specs.declared.path.Path.{Path}
-use Rattle.definitions.specs.Track.{Line, seg_len}
-use Rattle.track_points.specs.Points.{Lengths, total, place_of_last, end_place}
+use Rattle.track_points.specs.Points.{Lengths, Point, total, place_of_last, end_place}
+use Rattle.track_points.specs.Sets.{Points, set_has}
+use Rattle.definitions.specs.Track.{Line, seg_len, has_segment}
+use Rattle.definitions.specs.declared.message.Msg.{Msg}
+use Rattle.definitions.specs.declared.message.Msg.TheVariants as msg
 use Rattle.definitions.specs.declared.outcome.Obstacle.{Obstacle}
 use Rattle.definitions.specs.declared.outcome.Obstacle.TheVariants.{AskEnds, TrackEnds, Held, PathFull}
-use Rattle.definitions.specs.Limit as limits
-use Rattle.definitions.specs.Steps.{Effect, entry_path}
-use Rattle.definitions.specs.declared.outcome.Refusal.{Refusal}
-use Rattle.definitions.specs.declared.message.Msg.TheVariants as msg
 use Rattle.definitions.specs.declared.outcome.Outcome.TheVariants as out
-use Rattle.track_points.specs.declared.ids.TrainId.{TrainId}
-use Rattle.plain_state.specs.Plain.{lengthened}
-use Rattle.plain_state.specs.declared.ZoneTrain.{ZoneTrain}
+use Rattle.definitions.specs.Limit as limits
+use Rattle.definitions.specs.Steps.{Effect, entry_path, path_to}
+use Rattle.definitions.specs.Ways.{PlainWay}
+use Rattle.way_path.specs.Ways.{IsWay, OnLine, EndsWithPath}
+use Rattle.plain_state.specs.ZoneTrain.{ZoneTrain}
+use Rattle.plain_state.specs.Zone.{PlainZone, lengthened, hold_has, envelope_has}
 use Rattle.zone_state.specs.declared.reach.Stop.{Stop}
 use Rattle.zone_state.specs.declared.reach.Reach.{Reach}
+use Rattle.zone_state.specs.declared.trains.Controlled.{Controlled}
 
--- what a zone keeps: its number, and the ways of the trains that it controls
-pub record Zone_plain : Type 0 where
-  pub zone : ℕ
-  pub ways : List ZoneTrain
+-- what a zone keeps: its number, its Now, and the trains that it controls
+pub record ZoneKept : Type 0 where
+  pub id : ℕ
+  pub clock : ℕ
+  pub trains : List Controlled
+
+-- a train without its hold, and the zone's plain state
+abbrev pub plain_train : Controlled → ZoneTrain
+plain_train x = record {
+  id = x.id;
+  train_length = x.train_length;
+  way = x.way;
+  fronts = x.fronts;
+  last = x.last;
+  answered = x.answered;
+}
+
+abbrev pub plain_zone : ZoneKept → PlainZone
+plain_zone z = record { id = z.id; clock = z.clock; trains = map plain_train z.trains }
+
+-- what holds of a train that the zone controls, on its line
+pub record TrainFits (line : Line) (z : ℕ) (x : Controlled) : Type 0 where
+  pub way : IsWay x.way
+  pub on_line : OnLine line x.way
+  pub ends : EndsWithPath (seg_len line) x.way
+  pub behind : x.way.path.from + x.train_length ≤ x.fronts.lo
+  pub ordered : x.fronts.lo ≤ x.fronts.hi
+  pub ahead : x.fronts.hi ≤ x.way.end
+  pub hold : (point : Point) → set_has x.hold point ≡ hold_has line z (Some (plain_train x)) point
+
+unfoldable pub AllFit : Line → ℕ → List Controlled → Type 0
+AllFit line z [] = ⊤
+AllFit line z (x ∷ xs) = TrainFits line z x × AllFit line z xs
+
+-- every train of a zone fits
+abbrev pub IsZoneOn : Line → ZoneKept → Type 0
+IsZoneOn line z = AllFit line z.id z.trains
+
+-- the set of an envelope, of a train that the zone controls
+abbrev pub IsEnvelope : Lengths → Option ZoneTrain → Option Points → Type 0
+IsEnvelope len None None = ⊤
+IsEnvelope len (Some x) (Some set) = (point : Point) → set_has set point ≡ envelope_has len x point
+IsEnvelope len _ _ = ⊥
+
+abbrev pub is_train : ℕ → Controlled → Bool
+is_train t x = nat_eq x.id.0 t
+
+-- a train one of whose answers is counted
+abbrev pub counted : ℕ → Controlled → Controlled
+counted number x = record x { answered = max x.answered number }
 
 -- of two obstacles the nearer one, the first at a tie; one before the limit does not stand
 abbrev pub nearer : ℕ → Bool → Stop → Stop → Stop
@@ -50,33 +99,54 @@ stop_reach limit stop = record { distance = stop.place - limit; obstacle = stop.
 abbrev pub path_fits : Lengths → Path → Bool
 path_fits len path = nat_lt 0 (length path.steps.items) && nat_le (end_place len path) (total len path.steps.items)
 
-abbrev pub way_fits : Lengths → ZoneTrain → Bool
-way_fits len x = path_fits len x.path
+-- what holds of how far an ask of a path reaches
+pub record ReachFits (line : Line) (path : Path) (asked : List DirSeg) (distance : ℕ) : Type 0 where
+  pub within : end_place (seg_len line) path + distance ≤ total (seg_len line) (take 24 (limits.asked_way path.steps.items asked))
+  pub continued : 0 < distance → limits.continues line path.steps.items asked ≡ true
+  pub most : 0 < distance → end_place (seg_len line) path + distance ≤ 240000000
 
--- each way has a step, and ends on its last
-abbrev pub ways_fit : Line → List ZoneTrain → Bool
-ways_fit line ways = list_all (way_fits (seg_len line)) ways
+abbrev pub ReachFitsFound : Line → Option Path → List DirSeg → ℕ → Type 0
+ReachFitsFound line None asked distance = ⊤
+ReachFitsFound line (Some path) asked distance = ReachFits line path asked distance
 
-abbrev pub is_train : ℕ → ZoneTrain → Bool
-is_train t x = nat_eq x.id.0 t
-
--- the authority over a way, and its line
-abbrev pub way_granted : ℕ → TrainId → ZoneTrain → Obstacle → Effect
-way_granted z t x obstacle = record {
-  issued = (0, msg.Auth t x.last 0 x.path) ∷ [];
-  lines = out.Grant (record { 0 = z }) t x.last (limits.last_step x.path.steps.items) x.path.to obstacle ∷ [];
+-- a way with other steps
+abbrev pub with_steps : PlainWay → List DirSeg → PlainWay
+with_steps way steps = record {
+  mark = way.mark;
+  path = record { steps = record { items = steps }; from = way.path.from; to = way.path.to };
+  end = way.end;
 }
 
--- a way behind an ask of its train
+-- a way lengthened up to a distance from its end
+abbrev pub longer_way : Lengths → List DirSeg → ℕ → PlainWay → PlainWay
+longer_way len asked distance way = record {
+  mark = way.mark;
+  path = path_to len way.path.from (limits.asked_way way.path.steps.items asked) (end_place len way.path + distance);
+  end = end_place len way.path + distance;
+}
+
+-- a train behind an ask of its own
 abbrev pub way_asked : Lengths → List DirSeg → limits.Reach → ZoneTrain → ZoneTrain
 way_asked len asked reach x = if nat_eq reach.distance 0 then x else lengthened len asked reach.distance x
 
--- an entry refused, and one granted
-abbrev pub refused_with : ℕ → TrainId → Refusal → Effect
-refused_with z t refusal = record { issued = []; lines = out.NoEntry (record { 0 = z }) t refusal ∷ [] }
+-- the authority over a train's way, and its line
+abbrev pub way_granted : ℕ → TrainId → ZoneTrain → Obstacle → Effect
+way_granted z t x obstacle = record {
+  issued = (0, msg.Auth t x.last 0 x.way.path) ∷ [];
+  lines = out.Grant (record { 0 = z }) t x.last (limits.last_step x.way.path.steps.items) x.way.path.to obstacle ∷ [];
+}
+
+-- the way over the whole of a portal's segment
+abbrev pub entry_way : DirSeg → ℕ → PlainWay
+entry_way step room = record { mark = 0; path = entry_path step room; end = room }
 
 abbrev pub entry_granted : ℕ → TrainId → DirSeg → ℕ → Effect
 entry_granted z t step room = record {
   issued = (0, msg.Auth t 1 0 (entry_path step room)) ∷ [];
   lines = out.Entry (record { 0 = z }) t 1 ∷ [];
 }
+
+-- a request for entry is at a declared segment
+abbrev pub entry_declared : Line → Msg → Bool
+entry_declared line (msg.EntryAsk t time long error speed equipped step) = has_segment line step.seg.0
+entry_declared line _ = true

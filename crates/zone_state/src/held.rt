@@ -1,33 +1,22 @@
 //! What is held for other trains: the first such place on an asked way, and who holds a segment.
-ghost use Rattle.std.specs.Prelude.{◌≡◌, ◌≤◌, ◌*◌, length, min};
-ghost use Rattle.track_points.specs.Points.{end_place};
-ghost use Rattle.definitions.specs.Track.{seg_len, zone_of};
+ghost use Rattle.std.specs.Prelude.{◌≡◌, ◌≤◌, ◌*◌, length, map, min};
+ghost use Rattle.definitions.specs.Track.{seg_len};
 ghost use Rattle.definitions.specs.Authority.{less_of};
-ghost use Rattle.plain_state.specs.Plain.{way_on, holder_plain};
+ghost use Rattle.plain_state.specs.Zone.{way_on, holder_plain};
+ghost use Rattle.zone_state.specs.Zone.{plain_train};
 ghost use Rattle.zone_state.specs.Held.{cells_on, first_from, first_in, near_step, near_steps, near_way, near_ways, near_on, first_held};
 
-use crate::steps::{length_of, place_of_last, visits};
+use crate::steps::place_of_last;
+use crate::trains::Controlled;
 use line_map::Line;
-use plain_state::ZoneTrain;
 use track_points::{Dir, DirSeg, SegId, TrainId};
+use way_path::on_steps::{length_of, visits, zone_of};
 
 /// The cells of a segment from one mm to below another.
 #[derive(Clone, Copy)]
 pub(crate) struct Cells {
     lo: u64,
     hi: u64,
-}
-
-/// The zone of a segment; 0 where it is not declared.
-#[tactic(auto, using(crate::proofs::OnSteps::in_no_zone))]
-fn zone_of(line: &Line, s: SegId) -> u8
-    ensures { result ≡ zone_of line.now s.0 }
-{
-    if line.has_segment(s) {
-        line.zone_of(s).0
-    } else {
-        0
-    }
 }
 
 /// The cells that a step passes from one offset to below another, on a segment of a length.
@@ -103,23 +92,24 @@ fn near_steps(line: &Line, steps: &[DirSeg], lo: u64, hi: u64, step: DirSeg, fro
 }
 
 /// The first offset of a step, from one on, whose cell lies in a way.
-fn near_way(line: &Line, way: &ZoneTrain, step: DirSeg, from: u64) -> u64
-    ensures { result ≡ near_way (seg_len line.now) way.now step from }
+fn near_way(line: &Line, other: &Controlled, step: DirSeg, from: u64) -> u64
+    ensures { result ≡ near_way (seg_len line.now) (plain_train other.now) step from }
 {
-    let steps = way.path.steps.as_slice();
-    let end = place_of_last(line, steps, way.path.to);
-    near_steps(line, steps, way.path.from as u64, end, step, from)
+    let path = other.way.path();
+    let steps = path.steps.as_slice();
+    let end = place_of_last(line, steps, path.to);
+    near_steps(line, steps, path.from as u64, end, step, from)
 }
 
 /// The nearer of this offset and the first one whose cell lies in a way. A way that does not visit the segment is passed
 /// over.
 #[tactic(auto, using(crate::proofs::Away::way_away))]
-fn or_near_way(line: &Line, way: &ZoneTrain, step: DirSeg, from: u64, nearest: u64) -> u64
+fn or_near_way(line: &Line, other: &Controlled, step: DirSeg, from: u64, nearest: u64) -> u64
     requires { nearest ≤ seg_len line.now step.seg.0 }
-    ensures { result ≡ min (near_way (seg_len line.now) way.now step from) nearest }
+    ensures { result ≡ min (near_way (seg_len line.now) (plain_train other.now) step from) nearest }
 {
-    if visits(way.path.steps.as_slice(), step.seg) {
-        near_way(line, way, step, from).min(nearest)
+    if visits(other.way.path().steps.as_slice(), step.seg) {
+        near_way(line, other, step, from).min(nearest)
     } else {
         nearest
     }
@@ -127,17 +117,17 @@ fn or_near_way(line: &Line, way: &ZoneTrain, step: DirSeg, from: u64, nearest: u
 
 /// The first offset of a step, from one on, whose cell lies in the way of another train than this one.
 #[tactic(auto, using(crate::proofs::Away::ways_within), unfolding(crate::specs::Held::near_ways))]
-fn near_ways(line: &Line, ways: &[ZoneTrain], train: TrainId, step: DirSeg, from: u64) -> u64
-    ensures { result ≡ near_ways (seg_len line.now) train.0 ways.now step from }
+fn near_ways(line: &Line, trains: &[Controlled], train: TrainId, step: DirSeg, from: u64) -> u64
+    ensures { result ≡ near_ways (seg_len line.now) train.0 (map plain_train trains.now) step from }
 {
-    match ways {
+    match trains {
         [] => length_of(line, step.seg) as u64,
-        [way, rest @ ..] => {
+        [other, rest @ ..] => {
             let others = near_ways(line, rest, train, step, from);
-            if way.id.0 == train.0 {
+            if other.id.0 == train.0 {
                 others
             } else {
-                or_near_way(line, way, step, from, others)
+                or_near_way(line, other, step, from, others)
             }
         }
     }
@@ -147,15 +137,15 @@ fn near_ways(line: &Line, ways: &[ZoneTrain], train: TrainId, step: DirSeg, from
 fn near_on(
     line: &Line,
     zone: u8,
-    ways: &[ZoneTrain],
+    trains: &[Controlled],
     train: TrainId,
     step: DirSeg,
     from: u64,
 ) -> u64
-    ensures { result ≡ near_on line.now zone ways.now train.0 step from }
+    ensures { result ≡ near_on line.now zone (map plain_train trains.now) train.0 step from }
 {
     if zone_of(line, step.seg) == zone {
-        near_ways(line, ways, train, step, from)
+        near_ways(line, trains, train, step, from)
     } else {
         length_of(line, step.seg) as u64
     }
@@ -167,47 +157,47 @@ fn near_on(
 pub fn first_held(
     line: &Line,
     zone: u8,
-    ways: &[ZoneTrain],
+    trains: &[Controlled],
     train: TrainId,
     asked: &[DirSeg],
     from: u64,
 ) -> u64
     requires { length asked.now ≤ 48 }
-    ensures held { result ≡ first_held line.now zone ways.now train.0 asked.now from }
+    ensures held { result ≡ first_held line.now zone (map plain_train trains.now) train.0 asked.now from }
     ensures most { result ≤ 10000000 * length asked.now }
 {
     match asked {
         [] => 0,
         [step, rest @ ..] => {
             let len = length_of(line, step.seg) as u64;
-            let here = near_on(line, zone, ways, train, *step, from);
+            let here = near_on(line, zone, trains, train, *step, from);
             if here < len {
                 here
             } else {
-                len + first_held(line, zone, ways, train, rest, from.saturating_sub(len))
+                len + first_held(line, zone, trains, train, rest, from.saturating_sub(len))
             }
         }
     }
 }
 
 /// Whether a way that visits a segment has a cell of it, which is of the zone's own.
-fn visited_on(line: &Line, zone: u8, way: &ZoneTrain, s: SegId) -> bool
-    ensures { result ≡ way_on line.now zone s.0 way.now }
+fn visited_on(line: &Line, zone: u8, other: &Controlled, s: SegId) -> bool
+    ensures { result ≡ way_on line.now zone s.0 (plain_train other.now) }
 {
     let step = DirSeg {
         seg: s,
         dir: Dir::Up,
     };
-    zone_of(line, s) == zone && near_way(line, way, step, 0) < length_of(line, s) as u64
+    zone_of(line, s) == zone && near_way(line, other, step, 0) < length_of(line, s) as u64
 }
 
 /// Whether a way has a cell of a segment of the zone's own.
 #[tactic(auto, using(crate::proofs::Away::on_away))]
-fn way_on(line: &Line, zone: u8, way: &ZoneTrain, s: SegId) -> bool
-    ensures { result ≡ way_on line.now zone s.0 way.now }
+fn way_on(line: &Line, zone: u8, other: &Controlled, s: SegId) -> bool
+    ensures { result ≡ way_on line.now zone s.0 (plain_train other.now) }
 {
-    if visits(way.path.steps.as_slice(), s) {
-        visited_on(line, zone, way, s)
+    if visits(other.way.path().steps.as_slice(), s) {
+        visited_on(line, zone, other, s)
     } else {
         false
     }
@@ -223,16 +213,16 @@ fn lesser(one: u16, other: Option<u16>) -> u16
 }
 
 /// The least train for which a cell of a segment of the zone's own is held.
-#[tactic(auto, unfolding(plain_state::specs::Plain::least_way))]
-pub fn holder(line: &Line, zone: u8, ways: &[ZoneTrain], s: SegId) -> Option<u16>
-    ensures { result ≡ holder_plain line.now zone ways.now s.0 }
+#[tactic(auto, unfolding(plain_state::specs::Zone::least_way))]
+pub fn holder(line: &Line, zone: u8, trains: &[Controlled], s: SegId) -> Option<u16>
+    ensures { result ≡ holder_plain line.now zone (map plain_train trains.now) s.0 }
 {
-    match ways {
+    match trains {
         [] => None,
-        [way, rest @ ..] => {
+        [other, rest @ ..] => {
             let others = holder(line, zone, rest, s);
-            if way_on(line, zone, way, s) {
-                Some(lesser(way.id.0, others))
+            if way_on(line, zone, other, s) {
+                Some(lesser(other.id.0, others))
             } else {
                 others
             }

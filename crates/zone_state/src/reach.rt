@@ -1,17 +1,18 @@
 //! How far an ask reaches.
-ghost use Rattle.std.specs.Prelude.{◌≡◌, ◌≤◌, ◌<◌, ◌+◌, ◌*◌, length, take, Some, true, max, nat_lt};
-ghost use Rattle.track_points.specs.Points.{total, place_of_last, end_place};
+ghost use Rattle.std.specs.Prelude.{◌≡◌, ◌≤◌, ◌<◌, ◌+◌, length, map, take, Some, true, max};
+ghost use Rattle.track_points.specs.Points.{total, place_of_last};
 ghost use Rattle.definitions.specs.Track.{seg_len};
-ghost use Rattle.definitions.specs.Limit.{reach_from, asked_way};
-ghost use Rattle.plain_state.specs.Plain.{barring_plain};
-ghost use Rattle.zone_state.specs.Zone.{nearer, stop_on, stop_reach, reach_value, path_fits};
+ghost use Rattle.definitions.specs.Limit.{reach_from};
+ghost use Rattle.plain_state.specs.Zone.{barring_plain};
+ghost use Rattle.zone_state.specs.Zone.{nearer, stop_on, stop_reach, reach_value, path_fits, plain_train, ReachFits};
 
 use crate::held::first_held;
-use crate::steps::{asked_way, continues, last_step, length_of, place_of_last, total};
+use crate::steps::{asked_way, continues, place_of_last};
+use crate::trains::Controlled;
 use definitions::outcome::Obstacle;
 use line_map::Line;
-use plain_state::ZoneTrain;
 use track_points::{DirSeg, Path, TrainId};
+use way_path::on_steps::{last_step, length_of, total};
 
 /// How far an extension reaches beyond the end of a way, in mm, and what stops it there.
 #[derive(Clone, Copy, PartialEq, Eq, Debug)]
@@ -66,7 +67,7 @@ fn stop_on(line: &Line, asked: &[DirSeg], limit: u64, to: u32, held_place: u64) 
         obstacle: Obstacle::AskEnds,
     };
     let track_ends = Stop {
-        place: total(line, asked),
+        place: total(line, asked) as u64,
         obstacle: Obstacle::TrackEnds,
     };
     let held = Stop {
@@ -74,7 +75,7 @@ fn stop_on(line: &Line, asked: &[DirSeg], limit: u64, to: u32, held_place: u64) 
         obstacle: Obstacle::Held,
     };
     let path_full = Stop {
-        place: total(line, first_steps(asked)),
+        place: total(line, first_steps(asked)) as u64,
         obstacle: Obstacle::PathFull,
     };
     let beyond_track = length_of(line, last_step(asked).seg) < to;
@@ -98,6 +99,7 @@ fn reach_on(line: &Line, asked: &[DirSeg], limit: u64, to: u32, held_place: u64)
     requires near { limit ≤ total (seg_len line.now) (take 24 asked.now) }
     ensures reach { reach_value result ≡ stop_reach limit (stop_on (seg_len line.now) asked.now limit to held_place) }
     ensures within { limit + result.distance ≤ total (seg_len line.now) (take 24 asked.now) }
+    ensures most { limit + result.distance ≤ 240000000 }
 {
     let stop = stop_on(line, asked, limit, to, held_place);
     Reach {
@@ -112,7 +114,7 @@ fn reach_on(line: &Line, asked: &[DirSeg], limit: u64, to: u32, held_place: u64)
 pub fn reach_from(
     line: &Line,
     zone: u8,
-    ways: &[ZoneTrain],
+    trains: &[Controlled],
     train: TrainId,
     ready: bool,
     path: &Path,
@@ -121,14 +123,14 @@ pub fn reach_from(
 ) -> Reach
     requires few { length asked.now ≤ 24 }
     requires fits { path_fits (seg_len line.now) path.now ≡ true }
-    ensures reach { reach_value result ≡ reach_from line.now ready (Some path.now) asked.now to (barring_plain line.now zone ways.now train.0) }
-    ensures within { end_place (seg_len line.now) path.now + result.distance ≤ total (seg_len line.now) (take 24 (asked_way path.now.steps.items asked.now)) }
+    ensures reach { reach_value result ≡ reach_from line.now ready (Some path.now) asked.now to (barring_plain line.now zone (map plain_train trains.now) train.0) }
+    ensures fits { ReachFits line.now path.now asked.now result.distance }
 {
     let steps = path.steps.as_slice();
     let way = asked_way(steps, asked);
     if ready && continues(line, steps, asked, way.as_slice()) {
         let limit = place_of_last(line, steps, path.to);
-        let held_place = first_held(line, zone, ways, train, way.as_slice(), limit);
+        let held_place = first_held(line, zone, trains, train, way.as_slice(), limit);
         reach_on(line, way.as_slice(), limit, to, held_place)
     } else {
         Reach {

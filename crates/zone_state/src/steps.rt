@@ -1,26 +1,16 @@
-//! Asked steps: what continues a way, places on steps, and the steps up to a place.
-ghost use Rattle.std.specs.Prelude.{◌≡◌, ◌≤◌, ◌<◌, ◌+◌, ◌*◌, ◌++◌, length, take};
-ghost use Rattle.arrayvec.specs.ArrayVec.{array_vec_len};
-ghost use Rattle.track_points.specs.Points.{step_eq, total, place_of_last, steps_to, offset_to, visits, no_segment_twice};
+//! Asked steps: what continues a way, places on steps, and ways with further steps.
+ghost use Rattle.std.specs.Prelude.{◌≡◌, ◌≤◌, ◌<◌, ◌+◌, ◌*◌, ◌++◌, ◌^◌, length, take, true};
+ghost use Rattle.track_points.specs.Points.{step_eq, place_of_last, visits, no_segment_twice};
 ghost use Rattle.definitions.specs.Track.{seg_len, joined};
+ghost use Rattle.way_path.specs.Ways.{OnLine};
+ghost use Rattle.zone_state.specs.Zone.{with_steps};
 ghost use Rattle.definitions.specs.Limit.{last_step, beyond, or_all, further, asked_way, continues};
 
 use arrayvec::ArrayVec;
 use line_map::Line;
-use track_points::{Dir, DirSeg, SegId};
-
-/// The length of a segment in mm; 0 where it is not declared.
-#[tactic(auto, using(crate::proofs::OnSteps::undeclared))]
-pub fn length_of(line: &Line, s: SegId) -> u32
-    ensures len { result ≡ seg_len line.now s.0 }
-    ensures most { result ≤ 10000000 }
-{
-    if line.has_segment(s) {
-        line.seg_len(s)
-    } else {
-        0
-    }
-}
+use track_points::{Dir, DirSeg};
+use way_path::Way;
+use way_path::on_steps::{last_step, length_of, visits};
 
 fn same_step(a: DirSeg, b: DirSeg) -> bool
     ensures { result ≡ step_eq a b }
@@ -36,21 +26,6 @@ fn same_step(a: DirSeg, b: DirSeg) -> bool
                 Dir::Down => true,
             },
         }
-}
-
-/// The last of some steps; a step of no segment where there is none.
-#[tactic(auto, unfolding(definitions::specs::Limit::last_step))]
-pub fn last_step(steps: &[DirSeg]) -> DirSeg
-    ensures { result ≡ last_step steps.now }
-{
-    match steps {
-        [] => DirSeg {
-            seg: SegId(0),
-            dir: Dir::Up,
-        },
-        [step] => *step,
-        [_, rest @ ..] => last_step(rest),
-    }
 }
 
 /// The asked steps behind the first place of a step among them, or else all.
@@ -91,17 +66,6 @@ fn joined(line: &Line, from: DirSeg, steps: &[DirSeg]) -> bool
     }
 }
 
-/// Whether a step is on a segment.
-#[tactic(auto, unfolding(track_points::specs::Points::visits))]
-pub fn visits(steps: &[DirSeg], s: SegId) -> bool
-    ensures { result ≡ visits steps.now s.0 }
-{
-    match steps {
-        [] => false,
-        [step, rest @ ..] => step.seg.0 == s.0 || visits(rest, s),
-    }
-}
-
 /// Whether no segment is on the steps twice.
 #[tactic(auto, unfolding(track_points::specs::Points::no_segment_twice))]
 fn no_segment_twice(steps: &[DirSeg]) -> bool
@@ -133,21 +97,8 @@ pub fn continues(line: &Line, steps: &[DirSeg], asked: &[DirSeg], way: &[DirSeg]
     joined(line, last_step(steps), further(steps, asked)) && no_segment_twice(way)
 }
 
-/// The length of some steps, in mm.
-#[tactic(auto, unfolding(track_points::specs::Points::total))]
-pub fn total(line: &Line, steps: &[DirSeg]) -> u64
-    requires { length steps.now ≤ 48 }
-    ensures len { result ≡ total (seg_len line.now) steps.now }
-    ensures most { result ≤ 10000000 * length steps.now }
-{
-    match steps {
-        [] => 0,
-        [step, rest @ ..] => length_of(line, step.seg) as u64 + total(line, rest),
-    }
-}
-
 /// The place of an offset on the last step.
-#[tactic(auto, using(crate::proofs::OnSteps::last_alone), unfolding(track_points::specs::Points::place_of_last))]
+#[tactic(auto, using(way_path::proofs::OnSteps::last_alone), unfolding(track_points::specs::Points::place_of_last))]
 pub fn place_of_last(line: &Line, steps: &[DirSeg], off: u32) -> u64
     requires { length steps.now ≤ 48 }
     ensures place { result ≡ place_of_last (seg_len line.now) steps.now off }
@@ -160,47 +111,22 @@ pub fn place_of_last(line: &Line, steps: &[DirSeg], off: u32) -> u64
     }
 }
 
-/// Adds the steps up to a place.
-#[tactic(auto, unfolding(track_points::specs::Points::steps_to))]
-fn add_steps(line: &Line, asked: &[DirSeg], place: u64, out: &mut ArrayVec<DirSeg, 24>)
-    requires { array_vec_len out.old + length (steps_to (seg_len line.now) asked.now place) ≤ 24 }
-    ensures { out.new.items ≡ out.old.items ++ steps_to (seg_len line.now) asked.now place }
+/// Adds steps to a way while it has fewer than 24, and leaves its end where it is.
+pub fn extend_by(line: &Line, way: &mut Way, more: &[DirSeg])
+    requires on_line { OnLine line.now way.old }
+    requires marks { way.old.mark + 24 < 2 ^ 32 }
+    requires joined { joined line.now (last_step way.old.path.steps.items) more.now ≡ true }
+    requires once { no_segment_twice (way.old.path.steps.items ++ more.now) ≡ true }
+    ensures way { way.new ≡ with_steps way.old (take 24 (way.old.path.steps.items ++ more.now)) }
+    ensures on_line { OnLine line.now way.new }
 {
-    if let [step, rest @ ..] = asked {
-        out.push(*step);
-        let len = length_of(line, step.seg) as u64;
-        if place > len {
-            add_steps(line, rest, place - len, out);
-        }
+    if way.path().steps.len() == 24 {
+        return;
     }
-}
-
-/// The steps up to a place that is not behind the end of the first 24.
-#[tactic(auto, using(crate::proofs::OnSteps::few_steps_to))]
-pub fn steps_to(line: &Line, asked: &[DirSeg], place: u64) -> ArrayVec<DirSeg, 24>
-    requires { place ≤ total (seg_len line.now) (take 24 asked.now) }
-    ensures { result.items ≡ steps_to (seg_len line.now) asked.now place }
-{
-    let mut out = ArrayVec::new();
-    add_steps(line, asked, place, &mut out);
-    out
-}
-
-/// The offset of a place on the last of the steps up to it.
-#[tactic(auto, unfolding(track_points::specs::Points::offset_to, track_points::specs::Points::total))]
-pub fn offset_to(line: &Line, asked: &[DirSeg], place: u64) -> u32
-    requires { place ≤ total (seg_len line.now) asked.now }
-    ensures { result ≡ offset_to (seg_len line.now) asked.now place }
-{
-    match asked {
-        [] => place as u32,
-        [step, rest @ ..] => {
-            let len = length_of(line, step.seg) as u64;
-            if place <= len {
-                place as u32
-            } else {
-                offset_to(line, rest, place - len)
-            }
-        }
+    if let [step, rest @ ..] = more {
+        let Ok(()) = way.extend(line, *step) else {
+            unreachable!()
+        };
+        extend_by(line, way, rest);
     }
 }

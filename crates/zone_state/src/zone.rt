@@ -1,95 +1,227 @@
 //! The zone, as the world's messages drive it.
-ghost use Rattle.std.specs.Prelude.{◌≡◌, ◌<◌, ◌-◌, ◌^◌, ℕ, [], true, IfOk, OnOk};
-ghost use Rattle.plain_state.specs.Plain.{given, zone_takes_plain, ways_after, find_way, last_found};
+ghost use Rattle.std.specs.Prelude.{◌≡◌, ◌≤◌, ◌&&◌, map, max, nat_eq, true, IfOk, vec_capacity};
+ghost use Rattle.std.specs.List.{list_all};
+ghost use Rattle.track_points.specs.Points.{Point};
+ghost use Rattle.track_points.specs.Sets.{set_has};
+ghost use Rattle.definitions.specs.Track.{seg_len};
+ghost use Rattle.definitions.specs.Control.{message_time};
 ghost use Rattle.definitions.specs.Steps.{nothing};
-ghost use Rattle.zone_state.specs.Zone.{Zone_plain, ways_fit};
+ghost use Rattle.plain_state.specs.Plain.{zone_start};
+ghost use Rattle.plain_state.specs.Zone.{find_way, hold_has, zone_answer, ways_after, enters_here, fresh_number, fresh_mark, fresh_train, fresh_message, fresh, zone_take_effect, zone_take_next};
+ghost use Rattle.zone_state.specs.Zone.{plain_train, plain_zone, AllFit, IsZoneOn, IsEnvelope, entry_declared};
 
-use crate::ways::{answer, ask, enter};
-use definitions::message::Msg;
+use crate::trains::{Controlled, answer, ask, enter, train_index};
 use line_map::Line;
-use plain_state::{Given, ZoneTrain};
+use msg_codec::{Msg, Outs};
 use std::alloc::{AllocError, Global};
 use std::marker::Model;
-use track_points::ZoneId;
+use track_points::{PointSet, TrainId, ZoneId};
 
-/// A zone: its number, and the ways of the trains that it controls.
+/// How many trains a zone has room for.
+const ROOM: usize = 256;
+
+/// A zone: its number, the greatest time in any message that it took, and the trains that it controls. Its memory is
+/// reserved when it is made.
 #[derive(Drop)]
 pub struct Zone {
     id: u8,
-    ways: Vec<ZoneTrain>,
+    clock: u64,
+    trains: Vec<Controlled>,
 }
 
 impl Model for Zone {
-    ghost use Rattle.zone_state.specs.Zone.{Zone_plain};
+    ghost use Rattle.std.specs.Prelude.{◌≤◌, vec_capacity};
+    ghost use Rattle.zone_state.specs.Zone.{ZoneKept};
 
-    ghost Value = { Zone_plain };
+    ghost Value = { ZoneKept };
 
-    ghost view = { λ z. record { zone = z.id; ways = z.ways.items } };
+    ghost view = { λ z. record { id = z.id; clock = z.clock; trains = z.trains.items } };
+
+    ghost invariant = { λ z. 256 ≤ vec_capacity z.trains };
 }
 
-fn silent() -> Given
-    ensures { given result ≡ nothing }
+/// The time in a message.
+fn message_time(message: &Msg) -> u64
+    ensures { result ≡ message_time message.now }
 {
-    Given {
-        message: None,
-        line: None,
+    match message {
+        Msg::EntryAsk { time, .. } => *time,
+        Msg::Ask { time, .. } => *time,
+        Msg::Answer { time, .. } => *time,
+        Msg::Auth { .. } => 0,
+    }
+}
+
+/// Whether a message is no request for entry elsewhere than inward from a portal of the zone.
+fn enters_here(line: &Line, zone: u8, message: &Msg) -> bool
+    ensures here { result ≡ enters_here line.now zone message.now }
+    ensures declared { result ≡ true → entry_declared line.now message.now ≡ true }
+{
+    match message {
+        Msg::EntryAsk { step, .. } => line.begins_at_portal(*step)
+            && line.zone_of(step.seg).0 == zone,
+        _ => true,
+    }
+}
+
+fn fresh_number(n: u32) -> bool
+    ensures { result ≡ fresh_number n }
+{
+    n < 4_294_967_293
+}
+
+fn fresh_mark(n: u32) -> bool
+    ensures { result ≡ fresh_mark n }
+{
+    n < 4_294_967_247
+}
+
+/// Whether no number and no mark of a message is too great.
+fn fresh_message(message: &Msg) -> bool
+    ensures { result ≡ fresh_message message.now }
+{
+    match message {
+        Msg::Answer { number, .. } => fresh_number(*number),
+        Msg::Auth { number, mark, .. } => fresh_number(*number) && fresh_mark(*mark),
+        _ => true,
+    }
+}
+
+/// Whether no number and no mark of a train is too great.
+fn fresh_train(x: &Controlled) -> bool
+    ensures { result ≡ fresh_train (plain_train x.now) }
+{
+    fresh_number(x.last) && fresh_number(x.answered) && fresh_mark(x.way.mark())
+}
+
+fn all_fresh(trains: &[Controlled]) -> bool
+    ensures { result ≡ list_all fresh_train (map plain_train trains.now) }
+{
+    match trains {
+        [] => true,
+        [x, rest @ ..] => fresh_train(x) && all_fresh(rest),
+    }
+}
+
+/// Whether the zone heeds a message.
+fn heeds(line: &Line, zone: u8, trains: &[Controlled], message: &Msg, from: u8) -> bool
+    ensures heeds { result ≡ (nat_eq from 0 && (enters_here line.now zone message.now && fresh (map plain_train trains.now) message.now)) }
+    ensures declared { result ≡ true → entry_declared line.now message.now ≡ true }
+    ensures fresh { result ≡ true → list_all fresh_train (map plain_train trains.now) ≡ true }
+{
+    from == 0 && enters_here(line, zone, message) && fresh_message(message) && all_fresh(trains)
+}
+
+/// Answers a message that the zone heeds.
+fn take(
+    line: &Line,
+    zone: u8,
+    clock: u64,
+    trains: &mut Vec<Controlled>,
+    message: &Msg,
+    outs: &mut Outs,
+)
+    requires declared { entry_declared line.now message.now ≡ true }
+    requires fresh { list_all fresh_train (map plain_train trains.old.items) ≡ true }
+    requires empty { outs.old ≡ nothing }
+    requires room { 256 ≤ vec_capacity trains.old }
+    requires fits { AllFit line.now zone trains.old.items }
+    ensures gives { outs.new ≡ zone_answer line.now zone (map plain_train trains.old.items) message.now }
+    ensures next { map plain_train trains.new.items ≡ ways_after line.now zone clock (map plain_train trains.old.items) message.now }
+    ensures room { 256 ≤ vec_capacity trains.new }
+    ensures fits { AllFit line.now zone trains.new.items }
+{
+    match message {
+        Msg::EntryAsk {
+            train,
+            length,
+            step,
+            ..
+        } => enter(line, zone, clock, trains, *train, *length, *step, outs),
+        Msg::Ask {
+            train,
+            steps,
+            to,
+            ..
+        } => ask(
+            line,
+            zone,
+            trains.as_mut_slice(),
+            *train,
+            steps.as_slice(),
+            *to,
+            outs,
+        ),
+        Msg::Answer { train, number, .. } => answer(trains.as_mut_slice(), *train, *number),
+        Msg::Auth { .. } => {}
     }
 }
 
 impl Zone {
     /// A zone that controls no train.
-    pub fn start(alloc: Global, id: ZoneId) -> Zone
-        ensures { result ≡ record { zone = id.0; ways = [] } }
+    pub fn start(alloc: Global, line: &Line, z: ZoneId) -> Result<Zone, AllocError>
+        ensures starts { IfOk result (λ zone. plain_zone zone ≡ zone_start z.0) }
+        ensures fits { IfOk result (λ zone. IsZoneOn line.now zone) }
     {
-        Zone {
-            id: id.0,
-            ways: Vec::new(alloc),
-        }
+        Ok(Zone {
+            id: z.0,
+            clock: 0,
+            trains: Vec::with_capacity(alloc, ROOM)?,
+        })
     }
 
     /// Its number.
     pub fn id(&self) -> u8
-        ensures { result ≡ self.now.zone }
+        ensures { result ≡ self.now.id }
     {
         self.id
     }
 
-    /// The zone takes a message of the world. Where there is no memory for a further train, it is to be given up.
-    pub fn take(&mut self, line: &Line, message: &Msg) -> Result<Given, AllocError>
-        requires room { (t : ℕ) → last_found (find_way t self.old.ways) < 2 ^ 32 - 1 }
-        requires fits { ways_fit line.now self.old.ways ≡ true }
-        ensures gives { IfOk result (λ g. given g ≡ zone_takes_plain line.now self.old.zone self.old.ways message.now) }
-        ensures next { OnOk result (self.new.ways ≡ ways_after line.now self.old.zone self.old.ways message.now) }
-        ensures same { OnOk result (self.new.zone ≡ self.old.zone) }
-        ensures fits { OnOk result (ways_fit line.now self.new.ways ≡ true) }
+    /// Its Now: the greatest time in any message that it took.
+    pub fn now(&self) -> u64
+        ensures { result ≡ self.now.clock }
     {
-        match message {
-            Msg::EntryAsk {
-                train,
-                length,
-                step,
-                ..
-            } => enter(line, self.id, &mut self.ways, *train, *length, *step),
-            Msg::Ask {
-                train,
-                steps,
-                to,
-                ..
-            } => {
-                Ok(ask(
-                    line,
-                    self.id,
-                    self.ways.as_mut_slice(),
-                    *train,
-                    steps.as_slice(),
-                    *to,
-                ))
+        self.clock
+    }
+
+    /// The zone takes a message. It takes no memory.
+    pub fn step(&mut self, line: &Line, message: &Msg, from: u8, outs: &mut Outs)
+        requires empty { outs.old ≡ nothing }
+        requires fits { IsZoneOn line.now self.old }
+        ensures gives { outs.new ≡ zone_take_effect line.now (plain_zone self.old) from message.now }
+        ensures next { plain_zone self.new ≡ zone_take_next line.now (plain_zone self.old) from message.now }
+        ensures fits { IsZoneOn line.now self.new }
+    {
+        self.clock = self.clock.max(message_time(message));
+        if heeds(line, self.id, self.trains.as_slice(), message, from) {
+            take(line, self.id, self.clock, &mut self.trains, message, outs);
+        }
+    }
+
+    /// The points that it holds for a train; none where it does not control the train.
+    pub fn held(&self, train: TrainId) -> PointSet
+        ensures { (line : Line) → IsZoneOn line self.now → (point : Point) → set_has result point ≡ hold_has line self.now.id (find_way train.0 (plain_zone self.now).trains) point }
+    {
+        match train_index(self.trains.as_slice(), train) {
+            None => PointSet::empty(),
+            Some(i) => self.trains[i].hold.copy(),
+        }
+    }
+
+    /// The points that a train may have: those of its way from its least rear to its greatest front.
+    pub fn envelope(&self, line: &Line, train: TrainId) -> Option<PointSet>
+        requires { IsZoneOn line.now self.now }
+        ensures { IsEnvelope (seg_len line.now) (find_way train.0 (plain_zone self.now).trains) result }
+    {
+        match train_index(self.trains.as_slice(), train) {
+            None => None,
+            Some(i) => {
+                let x = &self.trains[i];
+                Some(
+                    x.way
+                        .points(line, x.fronts.rear(x.train_length), x.fronts.hi),
+                )
             }
-            Msg::Answer { train, number, .. } => {
-                answer(self.ways.as_mut_slice(), *train, *number);
-                Ok(silent())
-            }
-            Msg::Auth { .. } => Ok(silent()),
         }
     }
 }

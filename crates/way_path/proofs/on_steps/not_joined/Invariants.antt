@@ -1,5 +1,5 @@
 use Rattle.std.proofs.Common.{◌≡◌, take, true}
-use Rattle.way_path.specs.Ways.{chained}
+use Rattle.definitions.specs.Ways.{chained}
 use Rattle.way_path.proofs.on_steps.not_joined.Given as goal
 
 abbrev pub invariant-loop-i : goal.invariant-loop-i

@@ -2,4 +2,4 @@ use Rattle.std.proofs.Common.{length}
 use Rattle.zone_state.proofs.held.+holder.Given as goal
 
 abbrev pub decreases-holder : goal.decreases-holder
-decreases-holder l = length l.ways.now
+decreases-holder l = length l.trains.now

@@ -1,8 +1,9 @@
-use Rattle.std.proofs.Common.{arith, rules, true, refl, ◌≡◌, ◌∙◌, ◌&&◌}
+use Rattle.std.proofs.Common.{arith, rules, true, refl, ◌≡◌, ◌∙◌, ◌&&◌, map}
 use Rattle.track_points.specs.Points.{end_place}
 use Rattle.definitions.specs.Track.{seg_len}
 use Rattle.definitions.specs.Limit.{asked_way, continues}
 use Rattle.zone_state.specs.Held.{first_held}
+use Rattle.zone_state.specs.Zone.{plain_train}
 use Rattle.zone_state.proofs.Reaches.{end_within, reach_is}
 use Rattle.zone_state.proofs.reach.reach_from.Goals as goal
 
@@ -17,13 +18,22 @@ returns-then-continues-clause-reach c =
     let a : c.as_slice-then-continues-2.result.now ≡ asked_way c.args.path.now.steps.items c.args.asked.now = cc in
     let b : c.as_slice-then-continues.result.now ≡ asked_way c.args.path.now.steps.items c.args.asked.now = cc in
     let l : c.place_of_last-limit.result ≡ end_place (seg_len c.args.line.now) c.args.path.now = cc in
-    let p : c.first_held-held_place.result ≡ first_held c.args.line.now c.args.zone c.args.ways.now c.args.train.0 (asked_way c.args.path.now.steps.items c.args.asked.now) (end_place (seg_len c.args.line.now) c.args.path.now) =
+    let p : c.first_held-held_place.result ≡ first_held c.args.line.now c.args.zone (map plain_train c.args.trains.now) c.args.train.0 (asked_way c.args.path.now.steps.items c.args.asked.now) (end_place (seg_len c.args.line.now) c.args.path.now) =
     rw (c.first_held-held_place.ensures.held, b, l) refl in
     let t : (c.args.ready && continues c.args.line.now c.args.path.now.steps.items c.args.asked.now) ≡ true = search rules in
     let r = rw (a, l, p) at c.reach_on.ensures.reach in
-    rw t (r ∙ reach_is c.args.line.now c.args.zone c.args.ways.now c.args.train.0 (asked_way c.args.path.now.steps.items c.args.asked.now)
+    rw t (r ∙ reach_is c.args.line.now c.args.zone (map plain_train c.args.trains.now) c.args.train.0 (asked_way c.args.path.now.steps.items c.args.asked.now)
     (end_place (seg_len c.args.line.now) c.args.path.now) c.args.to)
 
-pub returns-else-ready-clause-within : goal.returns-else-ready-clause-within
-returns-else-ready-clause-within c =
-    let h = end_within (seg_len c.args.line.now) c.args.path.now c.args.asked.now (search rules) c.requires.fits in omega arith
+pub returns-else-ready-clause-fits : goal.returns-else-ready-clause-fits
+returns-else-ready-clause-fits c =
+    let h = end_within (seg_len c.args.line.now) c.args.path.now c.args.asked.now (search rules) c.requires.fits in
+    record { within = omega arith; continued = λ k. absurd (omega arith); most = λ k. absurd (omega arith) }
+
+pub returns-then-continues-clause-fits : goal.returns-then-continues-clause-fits
+returns-then-continues-clause-fits c =
+    let a : c.as_slice-then-continues-2.result.now ≡ asked_way c.args.path.now.steps.items c.args.asked.now = cc in
+    let l : c.place_of_last-limit.result ≡ end_place (seg_len c.args.line.now) c.args.path.now = cc in
+    let w = rw (a, l) at c.reach_on.ensures.within in
+    let m = rw l at c.reach_on.ensures.most in
+    record { within = w; continued = λ k. search rules; most = λ k. m }

@@ -1,5 +1,5 @@
 use Rattle.std.proofs.Common.{sym, ◌∙◌, refl}
-use Rattle.way_path.specs.Ways.{PlainWay}
+use Rattle.definitions.specs.Ways.{PlainWay}
 use Rattle.way_path.proofs.Ways.{grown_is_way, grown_on_line}
 use Rattle.way_path.proofs.way.Way.extend.Goals as goal
 

@@ -1,6 +1,6 @@
 use Rattle.std.proofs.Common.{◌<◌, ◌+◌, ◌-◌, ◌≡◌, sym, refl, arith}
 use Rattle.definitions.specs.Track.{seg_len}
-use Rattle.way_path.specs.Ways.{PlainWay}
+use Rattle.definitions.specs.Ways.{PlainWay}
 use Rattle.way_path.proofs.Ways.{dropped_at, dropped_some, dropped_is_way, dropped_on_line, dropped_end}
 use Rattle.way_path.proofs.way.Way.set_from.Goals as goal
 

@@ -1,5 +1,0 @@
-use Rattle.std.proofs.Common.{length}
-use Rattle.zone_state.proofs.steps.+last_step.Given as goal
-
-abbrev pub decreases-last_step : goal.decreases-last_step
-decreases-last_step l = length l.steps.now

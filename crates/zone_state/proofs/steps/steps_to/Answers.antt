@@ -1,9 +1,0 @@
-use Rattle.std.proofs.Common.{arith, length, refl, ◌≡◌}
-use Rattle.zone_state.proofs.OnSteps.{few_steps_to}
-use Rattle.definitions.specs.Track.{seg_len}
-use Rattle.zone_state.proofs.steps.steps_to.Goals as goal
-
-pub add_steps-requires : goal.add_steps-requires
-add_steps-requires c =
-    let h = few_steps_to (seg_len c.args.line.now) c.args.asked.now c.args.place c.requires in
-    let e : length c.new-out.result.items ≡ 0 = rw c.new-out.ensures refl in omega arith

@@ -1,0 +1,14 @@
+use Rattle.std.proofs.Common.{sym}
+use Rattle.zone_state.proofs.Shown.{held_none, held_some}
+use Rattle.zone_state.proofs.zone.Zone.held.Goals as goal
+
+pub returns-in-None : goal.returns-in-None
+returns-in-None c =
+    let h = rw c.as_slice.ensures.value at (sym c.in-None.ensures.first) in
+    rw (← c.self.view_is) (λ line f. held_none line c.self.inside.id c.args.train.0 c.self.inside.trains.items c.empty.result h c.empty.ensures)
+
+pub returns-in-Some : goal.returns-in-Some
+returns-in-Some c =
+    let h = rw c.as_slice.ensures.value at (sym c.in-Some.ensures.first) in
+    let l = rw c.as_slice.ensures.value at c.in-Some.ensures.within in
+    rw (← c.self.view_is) (λ line f. held_some line c.self.inside.id c.args.train.0 c.self.inside.trains.items c.in-Some.i c.index.result.now c.copy.result h l c.index.ensures c.copy.ensures f)
