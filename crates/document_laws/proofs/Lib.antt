@@ -1,3 +1,5 @@
+pub mod Delivered
+pub mod Clocks
 pub mod Throughout
 pub mod Whole
 mod Worked

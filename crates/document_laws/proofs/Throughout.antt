@@ -1,10 +1,10 @@
 -- What every stage that is reached keeps, and so safety after each event of every history.
-use Rattle.std.proofs.Common.{◌≡◌, ℕ, ◌+◌, ◌≤◌, List, [], ◌∷◌, ◌++◌, length, take, Bool, true, false, refl, sym, ◌∙◌, ap, append_assoc, append-nil, arith}
+use Rattle.std.proofs.Common.{◌≡◌, ℕ, zero, suc, ◌+◌, ◌≤◌, ◌<◌, ◌^◌, List, [], ◌∷◌, ◌++◌, length, take, drop, Bool, true, false, refl, sym, ◌∙◌, ap, append_assoc, append-nil, arith}
 use Rattle.std.proofs.lemmas.List.Sums.{sum_by-append}
 use Rattle.std.specs.Prelude.{nat_eq, nat_lt, cond, count_by, ◌&&◌, ◌||◌, not}
 use Rattle.std.specs.List.{list_any}
 use Rattle.definitions.specs.declared.item.Item.{Item}
-use Rattle.definitions.specs.declared.item.Item.TheVariants.{Zone, Segment, Joint, Portal, Buffer}
+use Rattle.definitions.specs.declared.item.Item.TheVariants.{Zone, Segment, Joint, Portal, Buffer, Silent}
 use Rattle.definitions.specs.declared.event.Event.{Event}
 use Rattle.definitions.specs.declared.document.TextLine.{TextLine}
 use Rattle.definitions.specs.declared.document.TextLine.TheVariants as says
@@ -14,18 +14,13 @@ use Rattle.definitions.specs.Track.{Line}
 use Rattle.definitions.specs.Rules.{rule_of, finish_rule, is_any_zone, builds, is_line}
 use Rattle.definitions.specs.Story.{Story}
 use Rattle.definitions.specs.Premises.{built, too_many, premise_of, admits}
+use Rattle.definitions.specs.World.{clock}
 use Rattle.definitions.specs.Steps.{story_of}
 use Rattle.definitions.specs.Safe.{Kept, IsLineOfOneZone}
-use Rattle.definitions.specs.Trace.{Stage, Items, Script, Over, Reading, start, is_over, input_limit, text_read, line_read, stage_read, second_zone, item_read, script_read, event_read}
+use Rattle.definitions.specs.Trace.{Stage, Items, Script, Over, Reading, start, is_over, input_limit, text_read, line_read, stage_read, second_zone, item_read, script_read, stands_for, event_read}
 use Rattle.document_laws.specs.Throughout.{stands, SafeHistory, SafeAt, SafeThroughout}
-
-pub by_test : {P : Type 0} (b : Bool) → (b ≡ true → P) → (b ≡ false → P) → P
-by_test true f g = f refl
-by_test false f g = g refl
-
-pub both : (x y : Bool) → (x && y) ≡ true → (x ≡ true) × (y ≡ true)
-both true y h = (refl, h)
-both false y h = absurd cc
+use Rattle.document_laws.proofs.Clocks.{clock_small}
+use Rattle.document_laws.proofs.Delivered.{by_test, both, kept_went, stands_admitted}
 
 -- the first holds, the second does not, and the third holds
 pub all_three : (x y z : Bool) → (x && (not y && z)) ≡ true → (x ≡ true) × (y ≡ false) × (z ≡ true)
@@ -61,11 +56,12 @@ one_more items (Segment s z len) c h = omega (arith, c, zones_append items (Segm
 one_more items (Joint a b) c h = omega (arith, c, zones_append items (Joint a b ∷ []))
 one_more items (Portal a) c h = omega (arith, c, zones_append items (Portal a ∷ []))
 one_more items (Buffer a) c h = omega (arith, c, zones_append items (Buffer a ∷ []))
+one_more items (Silent ms) c h = omega (arith, c, zones_append items (Silent ms ∷ []))
 
 -- what every stage that is reached keeps
 abbrev pub Good : Stage → Type 0
 Good (Items items) = (builds [] items ≡ true) × (count_by is_any_zone items ≤ 1)
-Good (Script line events) = IsLineOfOneZone line × Kept line events
+Good (Script line events count) = IsLineOfOneZone line × Kept line events
 Good (Over ending) = Unit {0}
 
 good_item : (n : ℕ) (items : List Item) (i : Item) → Good (Items items) → Good (item_read n items i (second_zone items i) (rule_of items i))
@@ -84,19 +80,15 @@ good_script n items g = by_test (nat_eq (finish_rule items) 0)
     (λ y. rw y (record { valid = is_line_of items g.0 y; one = g.1 }, tt))
     (λ e. rw e tt)
 
-admits_of : (line : Line) (s : Story) (e : Event) → built line s e ≡ true → too_many s e ≡ false → nat_eq (premise_of s e) 0 ≡ true → admits line s e ≡ true
+admits_of : (line : Line) (s : Story) (e : Event) → built line s e ≡ true → too_many s e ≡ false → nat_eq (premise_of line s e) 0 ≡ true → admits line s e ≡ true
 admits_of line s e b m p = rw (b, m, p) refl
 
-kept_more : (line : Line) (events : List Event) (e : Event) → admits line (story_of line events) e ≡ true → Kept line events → Kept line (e ∷ events)
-unfolding Kept
-kept_more line events e a k = (a, k)
-
-good_event : (n : ℕ) (line : Line) (events : List Event) (s : Story) (e : Event) → s ≡ story_of line events → Good (Script line events) → Good (event_read n line events s e).stage
-good_event n line events s e is g = by_test (built line s e)
+good_event : (n : ℕ) (line : Line) (events : List Event) (count : ℕ) (s : Story) (e : Event) → s ≡ story_of line events → Good (Script line events count) → Good (event_read n line events count s e).stage
+good_event n line events count s e is g = by_test (built line s e)
     (λ b. by_test (too_many s e)
     (λ m. rw (b, m) tt)
-    (λ m. by_test (nat_eq (premise_of s e) 0)
-    (λ p. rw (b, m, p) (g.0, kept_more line events e (ap (λ x. admits line x e) (sym is) ∙ admits_of line s e b m p) g.1))
+    (λ m. by_test (nat_eq (premise_of line s e) 0)
+    (λ p. rw (b, m, p) (g.0, kept_went line (stands_for line s e) events (stands_admitted line events s e is (admits_of line s e b m p)) g.1))
     (λ q. rw (b, m, q) tt)))
     (λ x. rw x tt)
 
@@ -108,11 +100,11 @@ good_stage n (Items items) (says.Item i) g = good_item n items i g
 good_stage n (Items items) says.Script g = good_script n items g
 good_stage n (Items items) (says.Event e) g = tt
 good_stage n (Items items) says.Strange g = tt
-good_stage n (Script line events) says.Passed g = g
-good_stage n (Script line events) (says.Item i) g = tt
-good_stage n (Script line events) says.Script g = tt
-good_stage n (Script line events) (says.Event e) g = good_event n line events (story_of line events) e refl g
-good_stage n (Script line events) says.Strange g = tt
+good_stage n (Script line events count) says.Passed g = g
+good_stage n (Script line events count) (says.Item i) g = tt
+good_stage n (Script line events count) says.Script g = tt
+good_stage n (Script line events count) (says.Event e) g = good_event n line events count (story_of line events) e refl g
+good_stage n (Script line events count) says.Strange g = tt
 
 good_line : (r : Reading) (line : List ℕ) → Good r.stage → Good (line_read r line).next.stage
 unfolding text_read
@@ -135,10 +127,20 @@ good_start = (refl, omega arith)
 abbrev pub SafeStories : Type 0
 SafeStories = (line : Line) (events : List Event) → IsLineOfOneZone line → Kept line events → SafeHistory line events
 
-pub safe_at : SafeStories → (s : Stage) → Good s → SafeAt s
-safe_at safe (Items items) g = tt
-safe_at safe (Script line events) g = safe line events g.0 g.1
-safe_at safe (Over ending) g = tt
+-- the history before its newest events
+kept_before : (line : Line) (k : ℕ) (events : List Event) → Kept line events → Kept line (drop k events)
+unfolding Kept
+kept_before line zero events h = h
+kept_before line (suc k) [] h = h
+kept_before line (suc k) (e ∷ events) h = kept_before line k events h.1
+
+abbrev SmallClock : Stage → Type 0
+SmallClock s = (line : Line) (events : List Event) (count : ℕ) → s ≡ Script line events count → clock (story_of line events) < 2 ^ 40
+
+pub safe_at : SafeStories → (s : Stage) → Good s → SmallClock s → SafeAt s
+safe_at safe (Items items) g c = tt
+safe_at safe (Script line events count) g c = (λ k. safe line (drop k events) g.0 (kept_before line k events g.1), c line events count refl)
+safe_at safe (Over ending) g c = tt
 
 pub safe_throughout : SafeStories → (bytes : List ℕ) → SafeThroughout bytes
-safe_throughout safe bytes k = safe_at safe (stands start (take k (text_lines bytes))).stage (good_stands (take k (text_lines bytes)) start good_start)
+safe_throughout safe bytes k = safe_at safe (stands start (take k (text_lines bytes))).stage (good_stands (take k (text_lines bytes)) start good_start) (clock_small bytes k)

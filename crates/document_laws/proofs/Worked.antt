@@ -4,17 +4,18 @@ use Rattle.std.specs.Prelude.{codes}
 use Rattle.definitions.specs.declared.item.Item.{Item}
 use Rattle.definitions.specs.declared.item.Item.TheVariants.{Zone}
 use Rattle.definitions.specs.declared.event.Event.{Event}
-use Rattle.definitions.specs.declared.event.Event.TheVariants.{Train}
+use Rattle.definitions.specs.declared.event.Event.TheVariants.{Train, Time, Take, Deliver}
 use Rattle.definitions.specs.declared.event.Kind.TheVariants.{Equipped}
+use Rattle.definitions.specs.declared.document.Ending.TheVariants as ends
 use Rattle.definitions.specs.Lines.{text_lines, text_of}
-use Rattle.definitions.specs.Grammar.{line_of, form_of, item_form, event_form, zone_line, segment_line, joint_line, portal_line, buffer_line, script_line, train_line, word_at, number_at, digits_at, field_at, ranged_at}
+use Rattle.definitions.specs.Grammar.{line_of, form_of, item_form, event_form, zone_line, segment_line, joint_line, portal_line, buffer_line, silent_line, script_line, train_line, entry_line, enter_line, ask_line, step_line, report_line, time_line, take_line, deliver_line, word_at, number_at, digits_at, field_at, ranged_at}
 use Rattle.definitions.specs.Rules.{rule_of, finish_rule, builds}
-use Rattle.definitions.specs.Story.{first_told}
+use Rattle.definitions.specs.Story.{first_told, sent, to_actor, ever}
 use Rattle.definitions.specs.World.{trains}
-use Rattle.definitions.specs.Steps.{story_of}
-use Rattle.definitions.specs.Safe.{Kept}
-use Rattle.definitions.specs.Trace.{trace}
-use Rattle.document_laws.specs.Whole.{said, IsDocument, IsDocumentWithoutScript, whole}
+use Rattle.definitions.specs.Control.{known_trains}
+use Rattle.definitions.specs.Steps.{story_of, taken_most, takes_from}
+use Rattle.definitions.specs.Trace.{trace, went}
+use Rattle.document_laws.specs.Whole.{said, behind_events, Admitted, IsDocument, IsDocumentWithoutScript, story_text, whole}
 use Rattle.document_laws.proofs.Whole.{document_gives, document_gives_nothing}
 
 abbrev items : List Item
@@ -34,7 +35,7 @@ unfolding said text_lines text_of line_of form_of item_form zone_line word_at nu
 is_alone = record { says_ = refl; builds = refl; one = omega arith; finished = refl; within = omega arith }
 
 is_scripted : IsDocument scripted items events
-unfolding said text_lines text_of line_of form_of item_form event_form zone_line segment_line joint_line portal_line buffer_line script_line train_line word_at number_at digits_at field_at ranged_at rule_of finish_rule builds Kept story_of first_told trains
+unfolding said text_lines text_of line_of form_of item_form event_form zone_line segment_line joint_line portal_line buffer_line silent_line script_line train_line word_at number_at digits_at field_at ranged_at rule_of finish_rule builds Admitted story_of first_told trains
 is_scripted = record { says_ = refl; builds = refl; one = omega arith; finished = refl; kept = (refl, tt); within = omega arith }
 
 alone_gives : trace alone ≡ whole items []
@@ -42,3 +43,30 @@ alone_gives = document_gives_nothing alone items is_alone
 
 scripted_gives : trace scripted ≡ whole items events
 scripted_gives = document_gives scripted items events is_scripted
+
+-- a delivery of one message
+abbrev further : List Event
+further = Train (record { 0 = 7 }) 60 2 20 Equipped ∷ Time (record { 0 = 1 }) (record { 0 = 7 }) ∷ Deliver 1 ∷ []
+
+abbrev delivered : List ℕ
+delivered = codes "zone 1\nscript\ntrain 7 60 2 20 eq\ntime 1 7\ndeliver 1\n"
+
+-- in the history it is its take
+is_take : behind_events items [] further ≡ Take 1 0 1 ∷ Time (record { 0 = 1 }) (record { 0 = 7 }) ∷ Train (record { 0 = 7 }) 60 2 20 Equipped ∷ []
+unfolding behind_events went story_of sent to_actor taken_most takes_from
+is_take = refl
+
+is_delivered : IsDocument delivered items further
+unfolding said text_lines text_of line_of form_of item_form event_form zone_line segment_line joint_line portal_line buffer_line silent_line script_line train_line entry_line enter_line ask_line step_line report_line time_line take_line deliver_line word_at number_at digits_at field_at ranged_at rule_of finish_rule builds Admitted went story_of first_told trains sent to_actor taken_most takes_from
+is_delivered = record { says_ = refl; builds = refl; one = omega arith; finished = refl; kept = (refl, (refl, (refl, tt))); within = omega arith }
+
+delivered_gives : trace delivered ≡ whole items further
+delivered_gives = document_gives delivered items further is_delivered
+
+-- no outcome line, and three events
+no_lines : story_text (story_of items (behind_events items [] further)) ≡ []
+unfolding behind_events went story_of first_told sent to_actor taken_most takes_from known_trains ever
+no_lines = refl
+
+three_events : (whole items further).ending ≡ ends.Done 3
+three_events = refl

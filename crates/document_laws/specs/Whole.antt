@@ -11,9 +11,10 @@ use Rattle.definitions.specs.Grammar.{line_of}
 use Rattle.definitions.specs.Rules.{finish_rule, is_any_zone, builds}
 use Rattle.definitions.specs.Story.{Entry as Made, Story}
 use Rattle.definitions.specs.Steps.{story_of}
-use Rattle.definitions.specs.Safe.{Kept}
+use Rattle.definitions.specs.Track.{Line}
+use Rattle.definitions.specs.Premises.{admits}
 use Rattle.definitions.specs.Endings.{outcomes_text, ending_text}
-use Rattle.definitions.specs.Trace.{Given, input_limit}
+use Rattle.definitions.specs.Trace.{Given, input_limit, went, stands_for}
 
 -- what a text line says, before what more lines say
 abbrev pub saying : TextLine → List TextLine → List TextLine
@@ -28,13 +29,27 @@ unfoldable pub said : List (List ℕ) → List TextLine
 said [] = []
 said (line ∷ lines) = saying (line_of (text_of line)) (said lines)
 
+-- a history behind one more event of a script: a delivery is its takes
+abbrev pub behind_event : Line → List Event → Event → List Event
+behind_event line before e = (went line before (stands_for line (story_of line before) e)).events
+
+-- a history behind further events of a script
+unfoldable pub behind_events : Line → List Event → List Event → List Event
+behind_events line before [] = before
+behind_events line before (e ∷ events) = behind_events line (behind_event line before e) events
+
+-- each event of a script is admitted behind the history so far
+unfoldable pub Admitted : Line → List Event → List Event → Type 0
+Admitted line before [] = Unit {0}
+Admitted line before (e ∷ events) = (admits line (story_of line before) e ≡ true) × Admitted line (behind_event line before e) events
+
 -- within the limit: the items make a line of at most one zone, and the events keep the premises
 pub record IsDocument (bytes : List ℕ) (items : List Item) (events : List Event) : Type 0 where
   pub says_ : said (text_lines bytes) ≡ map says.Item items ++ says.Script ∷ map says.Event events
   pub builds : builds [] items ≡ true
   pub one : count_by is_any_zone items ≤ 1
   pub finished : finish_rule items ≡ 0
-  pub kept : Kept items (reverse events)
+  pub kept : Admitted items [] events
   pub within : length bytes ≤ input_limit
 
 -- within the limit: the items make a line of at most one zone, and the word does not come
@@ -49,10 +64,10 @@ pub record IsDocumentWithoutScript (bytes : List ℕ) (items : List Item) : Type
 abbrev pub story_text : Story → List ℕ
 story_text s = flat_map (λ (e : Made). outcomes_text e.lines) (reverse s)
 
--- the story's outcome lines, and the number of its events
+-- the outcome lines of the whole history, and the number of events of the script
 abbrev pub whole : List Item → List Event → Given
 whole items events = record {
-  text = story_text (story_of items (reverse events)) ++ ending_text (ends.Done (length events));
+  text = story_text (story_of items (behind_events items [] events)) ++ ending_text (ends.Done (length events));
   ending = ends.Done (length events);
 }
 

@@ -7,7 +7,8 @@ ghost use Rattle.definitions.specs.declared.event.Event.{Event};
 ghost use Rattle.definitions.specs.Trace.{trace};
 ghost use Rattle.document_laws.specs.Whole.{IsDocument, IsDocumentWithoutScript, whole, refuses};
 
-/// A document of items, the word and events gives the story of its events, and how many they are.
+/// A document of items, the word and events gives the outcome lines of its history, in which a delivery is its takes, and
+/// how many events it says.
 #[tactic(auto, using(crate::proofs::Whole::document_gives))]
 pub fn document_gives()
     ensures { (bytes : List ℕ) (items : List Item) (events : List Event) → IsDocument bytes items events → trace bytes ≡ whole items events }

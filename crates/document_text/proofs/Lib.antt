@@ -1,2 +1,3 @@
 pub mod Number_fits
 pub mod Outcomes
+mod Worked

@@ -1,8 +1,8 @@
 //! What a text line says.
 ghost use Rattle.std.specs.Prelude.{◌≡◌, ◌+◌, ◌-◌, ◌<◌, ◌≤◌, ◌^◌, IfSome};
 ghost use Rattle.arrayvec.specs.ArrayVec.{array_vec_len};
-ghost use Rattle.definitions.specs.Grammar.{number_at, digits_at, word_at, field_at, sign_at, end_at, ranged_at, step_in, step_at, is_sign, asked_at, zone_line, segment_line, joint_line, portal_line, buffer_line, script_line, train_line, entry_line, enter_line, ask_line, take_line, item_form, event_form, form_of, line_of};
-ghost use Rattle.document_text.specs.Sees.{Sees};
+ghost use Rattle.definitions.specs.Grammar.{number_at, digits_at, word_at, field_at, sign_at, end_at, ranged_at, step_in, step_at, is_sign, asked_at, zone_line, segment_line, joint_line, portal_line, buffer_line, silent_line, script_line, train_line, entry_line, enter_line, ask_line, moves_at, step_line, signed_at, report_line, time_line, deliver_line, take_line, item_form, event_form, form_of, line_of};
+ghost use Rattle.document_text.specs.Sees.{Sees, PutBehind};
 
 use arrayvec::ArrayVec;
 use definitions::document::TextLine;
@@ -204,6 +204,16 @@ fn buffer(text: &[u8]) -> Option<TextLine>
     whole(TextLine::Item(Item::Buffer(a)), rest)
 }
 
+/// How many ms without a used report make a train silent.
+#[tactic(auto, unfolding(definitions::specs::Grammar::silent_line))]
+fn silent(text: &[u8]) -> Option<TextLine>
+    ensures { result ≡ silent_line text.now }
+{
+    let rest = word(b"silent", text)?;
+    let (ms, rest) = field(rest)?;
+    whole(TextLine::Item(Item::Silent(ms)), rest)
+}
+
 /// The line between the items and the events.
 #[tactic(auto, unfolding(definitions::specs::Grammar::script_line))]
 fn script(text: &[u8]) -> Option<TextLine>
@@ -323,6 +333,109 @@ fn ask(text: &[u8]) -> Option<TextLine>
     )
 }
 
+/// Trains and the mm that they move, at most `more`, put behind those before; false where this cannot be read, and then
+/// some may have been put.
+#[tactic(auto, unfolding(definitions::specs::Grammar::moves_at))]
+fn moves(moved: &mut ArrayVec<(TrainId, u32), 256>, more: u64, bytes: &[u8]) -> bool
+    requires { array_vec_len moved.old + more ≤ 256 }
+    ensures { PutBehind moved.old.items result moved.new.items (moves_at more bytes.now) }
+{
+    if bytes.is_empty() {
+        return true;
+    }
+    if more == 0 {
+        return false;
+    }
+    let Some((t, rest)) = ranged(1, 65535, bytes) else {
+        return false;
+    };
+    let Some((mm, rest)) = ranged(0, 3_600_000, rest) else {
+        return false;
+    };
+    moved.push((TrainId(t as u16), mm as u32));
+    moves(moved, more - 1, rest)
+}
+
+/// Time passes, and trains move.
+#[tactic(auto, unfolding(definitions::specs::Grammar::step_line))]
+fn time_step(text: &[u8]) -> Option<TextLine>
+    ensures { result ≡ step_line text.now }
+{
+    let rest = word(b"step", text)?;
+    let (ms, rest) = ranged(1, 60_000, rest)?;
+    let mut moved = ArrayVec::new();
+    if moves(&mut moved, 256, rest) {
+        Some(TextLine::Event(Event::Step(ms as u32, moved)))
+    } else {
+        None
+    }
+}
+
+/// A space, then a number that may have a sign before it.
+#[tactic(auto, unfolding(definitions::specs::Grammar::signed_at))]
+fn offset(bytes: &[u8]) -> Option<(i32, &[u8])>
+    ensures { Sees (λ x. (x.0, x.1.now)) result (signed_at 1000000 11000000 bytes.now) }
+{
+    let rest = word(b" ", bytes)?;
+    match word(b"-", rest) {
+        Some(rest) => {
+            let (n, rest) = number(rest)?;
+            if 1 <= n && n <= 1_000_000 {
+                Some((0 - n as i32, rest))
+            } else {
+                None
+            }
+        }
+        None => {
+            let (n, rest) = number(rest)?;
+            if n <= 11_000_000 {
+                Some((n as i32, rest))
+            } else {
+                None
+            }
+        }
+    }
+}
+
+/// A train reports where its head is.
+#[tactic(auto, unfolding(definitions::specs::Grammar::report_line))]
+fn report(text: &[u8]) -> Option<TextLine>
+    ensures { result ≡ report_line text.now }
+{
+    let rest = word(b"report", text)?;
+    let (t, rest) = ranged(1, 65535, rest)?;
+    let (z, rest) = ranged(1, 16, rest)?;
+    let (st, rest) = step(rest)?;
+    let (off, rest) = offset(rest)?;
+    let (flag, rest) = ranged(0, 1, rest)?;
+    let event = Event::Report(TrainId(t as u16), ZoneId(z as u8), st, off, flag == 1);
+    whole(TextLine::Event(event), rest)
+}
+
+/// The world tells the time.
+#[tactic(auto, unfolding(definitions::specs::Grammar::time_line))]
+fn time(text: &[u8]) -> Option<TextLine>
+    ensures { result ≡ time_line text.now }
+{
+    let rest = word(b"time", text)?;
+    let (z, rest) = ranged(1, 16, rest)?;
+    let (t, rest) = ranged(0, 65535, rest)?;
+    whole(
+        TextLine::Event(Event::Time(ZoneId(z as u8), TrainId(t as u16))),
+        rest,
+    )
+}
+
+/// All messages are taken that wait for an actor.
+#[tactic(auto, unfolding(definitions::specs::Grammar::deliver_line))]
+fn deliver(text: &[u8]) -> Option<TextLine>
+    ensures { result ≡ deliver_line text.now }
+{
+    let rest = word(b"deliver", text)?;
+    let (to, rest) = ranged(0, 16, rest)?;
+    whole(TextLine::Event(Event::Deliver(to as u8)), rest)
+}
+
 /// A message is taken.
 #[tactic(auto, unfolding(definitions::specs::Grammar::take_line))]
 fn take(text: &[u8]) -> Option<TextLine>
@@ -353,7 +466,8 @@ fn either(a: Option<TextLine>, b: Option<TextLine>) -> Option<TextLine>
 fn item(text: &[u8]) -> Option<TextLine>
     ensures { result ≡ item_form text.now }
 {
-    let end = either(portal(text), either(buffer(text), script(text)));
+    let last = either(silent(text), script(text));
+    let end = either(portal(text), either(buffer(text), last));
     either(zone(text), either(segment(text), either(joint(text), end)))
 }
 
@@ -362,8 +476,10 @@ fn item(text: &[u8]) -> Option<TextLine>
 fn event(text: &[u8]) -> Option<TextLine>
     ensures { result ≡ event_form text.now }
 {
-    let later = either(enter(text), either(ask(text), take(text)));
-    either(train(text), either(entry(text), later))
+    let link = either(time(text), either(take(text), deliver(text)));
+    let later = either(time_step(text), either(report(text), link));
+    let asks = either(enter(text), either(ask(text), later));
+    either(train(text), either(entry(text), asks))
 }
 
 /// What a text line says that is not passed over.

@@ -125,6 +125,7 @@ fn code_of(obstacle: Obstacle) -> u64
         Obstacle::TrackEnds => 2,
         Obstacle::Held => 3,
         Obstacle::NotJoined => 10,
+        Obstacle::Silent => 11,
         Obstacle::PathFull => 12,
     }
 }
@@ -149,6 +150,15 @@ fn write_refused<K: Sink>(
             write_line(b"noentry", &[z, t, Held(other.0 as u64)], b"\n", sink)
         }
     }
+}
+
+/// A train has become silent.
+#[tactic(auto, unfolding(definitions::specs::Endings::outcome_text))]
+fn write_alarm<K: Sink>(zone: ZoneId, train: TrainId, sink: &mut K) -> Result<(), WriteFault>
+    ensures { Wrote K.written K.faults sink.old sink.new (outcome_text (Outcome.AlarmSilent zone train)) result }
+{
+    let parts = [Number(zone.0 as u64), Number(train.0 as u64)];
+    write_line(b"alarm silent", &parts, b"\n", sink)
 }
 
 /// An outcome line.
@@ -181,6 +191,18 @@ pub fn write_outcome<K: Sink>(outcome: &Outcome, sink: &mut K) -> Result<(), Wri
             ];
             write_line(b"deny", &parts, b"\n", sink)
         }
+        Outcome::Place(z, t, rear, rear_off, front, front_off) => {
+            let parts = [
+                Number(z.0 as u64),
+                Number(t.0 as u64),
+                Step(rear),
+                Number(rear_off as u64),
+                Step(front),
+                Number(front_off as u64),
+            ];
+            write_line(b"place", &parts, b"\n", sink)
+        }
+        Outcome::AlarmSilent(z, t) => write_alarm(z, t, sink),
         Outcome::Answer(t, n, verdict) => {
             let parts = [Number(t.0 as u64), Number(n as u64)];
             write_line(b"answer", &parts, verdict_word(verdict), sink)

@@ -1,2 +1,3 @@
 pub mod Valid
 mod Counting
+pub mod Following

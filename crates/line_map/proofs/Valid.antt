@@ -8,30 +8,30 @@ use Rattle.std.proofs.lemmas.List.Folds.{list_any-append, list_all-append}
 use Rattle.std.proofs.lemmas.List.Elements.{All-get_or}
 use Rattle.std.proofs.lemmas.List.Sums.{AllPass-from_list_all}
 use Rattle.definitions.specs.declared.item.Item.{Item}
-use Rattle.definitions.specs.declared.item.Item.TheVariants.{Zone, Segment, Joint, Portal, Buffer}
+use Rattle.definitions.specs.declared.item.Item.TheVariants.{Zone, Segment, Joint, Portal, Buffer, Silent}
 use Rattle.track_points.specs.declared.ids.DirSeg.{DirSeg}
 use Rattle.definitions.specs.declared.item.End.{End}
 use Rattle.definitions.specs.Track.{Line, ranged, end_eq, is_portal, entrance_of, begins_at_portal, is_zone, is_segment, has_zone, has_segment, length_in, zone_in, seg_len, zone_of}
 use Rattle.definitions.specs.Rules.{rule_of, builds, is_line}
 use Rattle.line_map.specs.Next.{FitsIds}
 
-by_test : {P : Type 0} (b : Bool) → (b ≡ true → P) → (b ≡ false → P) → P
+pub by_test : {P : Type 0} (b : Bool) → (b ≡ true → P) → (b ≡ false → P) → P
 by_test true p q = p refl
 by_test false p q = q refl
 
-absurd : {P : Type 0} → false ≡ true → P
+pub absurd : {P : Type 0} → false ≡ true → P
 absurd h = elim (both_ways false refl h) [ ]
 
-and_left : (a b : Bool) → (a && b) ≡ true → a ≡ true
+pub and_left : (a b : Bool) → (a && b) ≡ true → a ≡ true
 and_left a b h = grind arith
 
-and_right : (a b : Bool) → (a && b) ≡ true → b ≡ true
+pub and_right : (a b : Bool) → (a && b) ≡ true → b ≡ true
 and_right a b h = grind arith
 
 and_both : (a b : Bool) → a ≡ true → b ≡ true → (a && b) ≡ true
 and_both a b h k = grind arith
 
-or_left : (a b : Bool) → a ≡ true → (a || b) ≡ true
+pub or_left : (a b : Bool) → a ≡ true → (a || b) ≡ true
 or_left a b h = grind arith
 
 -- the items so far break no rule, and neither does the next
@@ -55,6 +55,7 @@ fine line (Segment s z len) = (ranged 1 32767 s && ranged 1 10000000 len) && has
 fine line (Joint a b) = has_segment line a.segment && has_segment line b.segment
 fine line (Portal a) = has_segment line a.segment
 fine line (Buffer a) = has_segment line a.segment
+fine line (Silent ms) = ranged 1 3600000 ms
 
 rule_fine : (line : Line) (i : Item) → rule_of line i ≡ 0 → fine line i ≡ true
 unfolding rule_of
@@ -63,6 +64,7 @@ rule_fine line (Segment s z len) r = grind arith
 rule_fine line (Joint a b) r = grind arith
 rule_fine line (Portal a) r = grind arith
 rule_fine line (Buffer a) r = grind arith
+rule_fine line (Silent ms) r = grind arith
 
 zone_grown : (line : Line) (x : Item) (z : ℕ) → has_zone line z ≡ true → has_zone (line ++ x ∷ []) z ≡ true
 zone_grown line x z h = rw (list_any-append (is_zone z) line (x ∷ [])) (or_left _ _ h)
@@ -77,6 +79,7 @@ grown line x (Joint a b) h =
     and_both _ _ (segment_grown line x a.segment (and_left _ _ h)) (segment_grown line x b.segment (and_right _ _ h))
 grown line x (Portal a) h = segment_grown line x a.segment h
 grown line x (Buffer a) h = segment_grown line x a.segment h
+grown line x (Silent ms) h = h
 
 all_grown : (line : Line) (x : Item) (items : List Item) → list_all (fine line) items ≡ true → list_all (fine (line ++ x ∷ [])) items ≡ true
 all_grown line x [] h = refl
@@ -90,7 +93,7 @@ one_more line i h r =
     let old : list_all p line ≡ true = all_grown line i line h in
     list_all-append p line (i ∷ []) ∙ and_both (list_all p line) (list_all p (i ∷ [])) old (and_both (p i) true last refl)
 
-zero_test : (n : ℕ) → nat_eq n 0 ≡ true → n ≡ 0
+pub zero_test : (n : ℕ) → nat_eq n 0 ≡ true → n ≡ 0
 zero_test n h = grind (arith, nat_tests)
 
 builds_fine : (before items : List Item) → builds before items ≡ true → list_all (fine before) before ≡ true
@@ -135,6 +138,7 @@ segment_here line s (Segment r z len) f h =
 segment_here line s (Joint a b) f h = absurd h
 segment_here line s (Portal a) f h = absurd h
 segment_here line s (Buffer a) f h = absurd h
+segment_here line s (Silent ms) f h = absurd h
 segment_here line s (Zone z) f h = absurd h
 
 segment_fine : (line items : List Item) → list_all (fine line) items ≡ true → (s : ℕ) → has_segment items s ≡ true
@@ -160,6 +164,7 @@ zone_here line z (Zone y) f h = let e : y ≡ z = grind (arith, nat_tests) in rw
 zone_here line z (Joint a b) f h = absurd h
 zone_here line z (Portal a) f h = absurd h
 zone_here line z (Buffer a) f h = absurd h
+zone_here line z (Silent ms) f h = absurd h
 zone_here line z (Segment s y len) f h = absurd h
 
 zone_fine : (line items : List Item) → list_all (fine line) items ≡ true → (z : ℕ) → has_zone items z ≡ true → ranged 1 16 z ≡ true
@@ -183,6 +188,7 @@ ids_fit line v (Joint a b) f = (
 )
 ids_fit line v (Portal a) f = tt
 ids_fit line v (Buffer a) f = tt
+ids_fit line v (Silent ms) f = tt
 
 pub ids_at : (line : Line) → is_line line ≡ true → (k : ℕ) (d : Item) → k < length line → FitsIds (get_or line k d)
 ids_at line v k d h =
@@ -195,6 +201,7 @@ portal_in line (Zone z ∷ items) e h p = portal_in line items e (and_right _ _ 
 portal_in line (Segment s z len ∷ items) e h p = portal_in line items e (and_right _ _ h) p
 portal_in line (Joint a b ∷ items) e h p = portal_in line items e (and_right _ _ h) p
 portal_in line (Buffer a ∷ items) e h p = portal_in line items e (and_right _ _ h) p
+portal_in line (Silent ms ∷ items) e h p = portal_in line items e (and_right _ _ h) p
 portal_in line (Portal a ∷ items) e h p =
     by_test (end_eq a e)
     (λ y. let s : a.segment ≡ e.segment = grind (arith, nat_tests) in rw (← s) (and_left _ _ h))

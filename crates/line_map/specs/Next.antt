@@ -1,5 +1,5 @@
 -- What is behind a step.
-use Rattle.std.specs.Prelude.{◌≤◌, ⊤, [], ◌∷◌, if◌then◌else◌}
+use Rattle.std.specs.Prelude.{◌≡◌, ◌≤◌, ◌<◌, ⊤, ℕ, List, [], ◌∷◌, length, get_or, if◌then◌else◌, Option, Some, None}
 use Rattle.track_points.specs.declared.ids.DirSeg.{DirSeg}
 use Rattle.definitions.specs.declared.item.End.{End}
 use Rattle.definitions.specs.declared.item.Item.{Item}
@@ -24,6 +24,9 @@ abbrev pub FitsIds : Item → Type 0
 FitsIds (Joint a b) = (a.segment ≤ 32767) × (b.segment ≤ 32767)
 FitsIds _ = ⊤
 
+abbrev pub AllFit : List Item → Type 0
+AllFit items = (k : ℕ) (d : Item) → k < length items → FitsIds (get_or items k d)
+
 -- what is behind a step: by the first item that uses its exit end. An end is used at most once (rule 6) and every end
 -- is used (rule 7), so in a valid line there is exactly one such item; where there is none, this says Buffer.
 unfoldable pub after_end : Line → End → After
@@ -32,3 +35,10 @@ after_end (i ∷ line) e = if uses e i then after_item e i else after_end line e
 
 abbrev pub after_of : Line → DirSeg → After
 after_of line step = after_end line (exit_of step)
+
+-- a step is behind it exactly where a step follows, and that one
+abbrev pub AfterIs : Option DirSeg → After → Type 0
+AfterIs (Some b) (Plain c) = b ≡ c
+AfterIs (Some b) _ = ⊥
+AfterIs None (Plain c) = ⊥
+AfterIs None _ = ⊤

@@ -1,7 +1,7 @@
 //! What one item says, and scans over the items.
 ghost use Rattle.std.specs.Prelude.{◌≡◌, count_by};
 ghost use Rattle.std.specs.List.{list_any};
-ghost use Rattle.definitions.specs.Track.{is_zone, is_segment, uses, end_eq, joins, is_portal, seg_len, zone_of, flip};
+ghost use Rattle.definitions.specs.Track.{is_zone, is_segment, uses, end_eq, joins, is_portal, seg_len, zone_of, flip, is_any_silent, silent_after};
 ghost use Rattle.definitions.specs.Rules.{is_any_zone, is_any_segment, other_end};
 
 use definitions::item::{End, Item};
@@ -78,6 +78,15 @@ fn names_a_segment(item: &Item) -> bool
     }
 }
 
+fn names_silence(item: &Item) -> bool
+    ensures { result ≡ is_any_silent item.now }
+{
+    match *item {
+        Item::Silent(_) => true,
+        _ => false,
+    }
+}
+
 /// Whether the item uses the end.
 pub fn takes_end(item: &Item, e: End) -> bool
     ensures { result ≡ uses e item.now }
@@ -125,6 +134,12 @@ pub fn declares_a_zone(items: &[Item]) -> bool
     ensures { result ≡ list_any is_any_zone items.now }
 {
     items.iter().any(|item| names_a_zone(item))
+}
+
+pub fn declares_silence(items: &[Item]) -> bool
+    ensures { result ≡ list_any is_any_silent items.now }
+{
+    items.iter().any(|item| names_silence(item))
 }
 
 pub fn segment_count(items: &[Item]) -> usize
@@ -179,4 +194,17 @@ pub fn zone_at(items: &[Item], s: u64) -> u64
         }
     }
     0
+}
+
+/// How many ms without a used report make a train silent: those of the first item that says it, 5000 where none does.
+#[tactic(auto, unfolding(definitions::specs::Track::silent_after))]
+pub fn silent_at(items: &[Item]) -> u64
+    ensures { result ≡ silent_after items.now }
+{
+    for item in items {
+        if let Item::Silent(ms) = *item {
+            return ms;
+        }
+    }
+    5000
 }

@@ -1,13 +1,13 @@
 //! A valid line, and what can be asked of it.
 ghost use Rattle.std.specs.Prelude.{◌≡◌, ◌≤◌, true, IfOk};
-ghost use Rattle.definitions.specs.Track.{has_zone, has_segment, seg_len, zone_of, follows, begins_at_portal, exit_of, entrance_of};
+ghost use Rattle.definitions.specs.Track.{has_zone, has_segment, seg_len, zone_of, follows, begins_at_portal, exit_of, entrance_of, next_step, silent_after};
 ghost use Rattle.definitions.specs.Rules.{is_line};
 ghost use Rattle.line_map.specs.Order.{IsSegmentAt, IsZoneAt};
-ghost use Rattle.line_map.specs.Next.{after_of, after_item, step_in, FitsIds};
+ghost use Rattle.line_map.specs.Next.{after_of, after_end, after_item, step_in, FitsIds, AllFit, AfterIs};
 
 use crate::items::{
-    declares_segment, declares_zone, has_joint, has_portal, length_of, same_end, takes_end, turned,
-    zone_at,
+    declares_segment, declares_zone, has_joint, has_portal, length_of, same_end, silent_at,
+    takes_end, turned, zone_at,
 };
 use crate::order::{segment_at, zone_number};
 use definitions::item::{End, Item};
@@ -91,6 +91,20 @@ fn behind(item: &Item, e: End) -> After
     }
 }
 
+/// What the first item that uses the end leads to, a buffer where none does.
+#[tactic(auto, unfolding(crate::specs::Next::after_end))]
+fn first_behind(items: &[Item], e: End) -> After
+    requires { AllFit items.now }
+    ensures { result ≡ after_end items.now e }
+{
+    for item in items {
+        if takes_end(item, e) {
+            return behind(item, e);
+        }
+    }
+    After::Buffer
+}
+
 impl Line {
     /// The line of items that break no rule.
     pub(crate) fn of(items: Vec<Item>) -> Line
@@ -159,19 +173,20 @@ impl Line {
         has_portal(self.items.as_slice(), entrance_end(step))
     }
 
+    /// How many ms without a used report make a train silent.
+    pub fn silent(&self) -> u64
+        ensures { result ≡ silent_after self.now }
+    {
+        silent_at(self.items.as_slice())
+    }
+
     /// What is behind the exit end of a step: each end of a line is used by exactly one joint, portal or buffer.
-    #[tactic(auto, unfolding(crate::specs::Next::after_end))]
     pub fn after(&self, at: DirSeg) -> After
         requires { has_segment self.now at.seg.0 ≡ true }
-        ensures { result ≡ after_of self.now at }
+        ensures is { result ≡ after_of self.now at }
+        ensures next { AfterIs (next_step self.now at) result }
     {
-        let end = exit_end(at);
-        for item in self.items.as_slice() {
-            if takes_end(item, end) {
-                return behind(item, end);
-            }
-        }
-        After::Buffer
+        first_behind(self.items.as_slice(), exit_end(at))
     }
 
     /// The k-th declared zone by ascending id, from 0; `None` where there are not more than k.

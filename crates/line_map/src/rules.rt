@@ -2,11 +2,11 @@
 ghost use Rattle.std.specs.Prelude.{◌≡◌};
 ghost use Rattle.std.specs.List.{list_any};
 ghost use Rattle.definitions.specs.Track.{ranged, flip};
-ghost use Rattle.definitions.specs.Rules.{zone_rule, segment_rule, end_rule, pair_rule, joint_rule, rule_of, is_open, joins_within, is_bare, finish_rule};
+ghost use Rattle.definitions.specs.Rules.{zone_rule, segment_rule, end_rule, pair_rule, joint_rule, silent_rule, rule_of, is_open, joins_within, is_bare, finish_rule};
 
 use crate::items::{
-    declares_a_zone, declares_segment, declares_zone, is_used, opposite, same_end, segment_count,
-    zone_at,
+    declares_a_zone, declares_segment, declares_silence, declares_zone, is_used, opposite,
+    same_end, segment_count, zone_at,
 };
 use definitions::item::{End, Item};
 use track_points::Dir;
@@ -79,6 +79,18 @@ fn joint_breaks(items: &[Item], a: End, b: End) -> u8
     }
 }
 
+fn silent_breaks(items: &[Item], ms: u64) -> u8
+    ensures { result ≡ silent_rule items.now ms }
+{
+    if declares_silence(items) {
+        2
+    } else if in_range(1, 3_600_000, ms) {
+        0
+    } else {
+        4
+    }
+}
+
 /// The least rule that an item breaks behind these items, 0 for none.
 #[tactic(auto, unfolding(definitions::specs::Rules::rule_of))]
 pub fn breaks(items: &[Item], item: &Item) -> u8
@@ -90,6 +102,7 @@ pub fn breaks(items: &[Item], item: &Item) -> u8
         Item::Joint(a, b) => joint_breaks(items, a, b),
         Item::Portal(a) => end_breaks(items, a, 0),
         Item::Buffer(a) => end_breaks(items, a, 0),
+        Item::Silent(ms) => silent_breaks(items, ms),
     }
 }
 

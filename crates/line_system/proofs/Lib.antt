@@ -1,3 +1,6 @@
 pub mod Start
+pub mod Delivering
+pub mod Ordinals
+pub mod Bounds
 pub mod Story
 pub mod Steps

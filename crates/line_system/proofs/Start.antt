@@ -1,20 +1,22 @@
 -- The zone of a line of one zone, and what a system keeps at its start.
-use Rattle.std.proofs.Common.{◌≡◌, ℕ, zero, suc, ◌<◌, ◌≤◌, Bool, true, ◌&&◌, [], ◌∷◌, arith, nat_eq, count_by, Some, None}
+use Rattle.std.proofs.Common.{◌≡◌, ℕ, zero, suc, ◌<◌, ◌≤◌, Bool, true, ◌&&◌, [], ◌∷◌, ap, arith, nat_eq, count_by, Some, None}
 use Rattle.std.specs.List.{list_any}
 use Rattle.std.proofs.lemmas.Bool.Decides.{nat_tests}
 use Rattle.track_points.specs.declared.ids.ZoneId.{ZoneId}
 use Rattle.track_points.proofs.Some.{by_test}
-use Rattle.definitions.specs.declared.item.Item.TheVariants.{Zone, Segment, Joint, Portal, Buffer}
+use Rattle.definitions.specs.declared.item.Item.TheVariants.{Zone, Segment, Joint, Portal, Buffer, Silent}
 use Rattle.definitions.specs.Track.{Line, has_zone}
 use Rattle.definitions.specs.Rules.{is_any_zone, is_line, builds, finish_rule}
 use Rattle.definitions.specs.Safe.{Kept}
-use Rattle.definitions.specs.Steps.{story_of}
+use Rattle.definitions.specs.Steps.{story_of, taken_most}
 use Rattle.plain_state.specs.Plain.{Plain, zone_id, plain_start}
 use Rattle.zone_state.specs.Zone.{ZoneKept, IsZoneOn}
+use Rattle.world_sim.specs.World.{AllOn}
+use Rattle.line_system.specs.State.{Taken, taken_start}
 use Rattle.line_map.specs.Order.{count_below, IsZoneAt}
 use Rattle.line_map.proofs.Valid.{zone_ok}
-use Rattle.story_laws.proofs.Lines.{zone_only}
-use Rattle.story_laws.proofs.Linking.{linked_start}
+use Rattle.sound_laws.proofs.One_zone.{zone_only}
+use Rattle.link_laws.proofs.Linking.{linked_start}
 use Rattle.line_system.specs.Kept.{IsKept}
 
 pub zone_at : (line : Line) (k : ℕ) (z : ZoneId) → IsZoneAt line k (Some z) → count_by is_any_zone line ≤ 1 → z.0 ≡ zone_id line
@@ -28,6 +30,7 @@ has_first (Segment s z len ∷ line) h = has_first line h
 has_first (Joint a b ∷ line) h = has_first line h
 has_first (Portal a ∷ line) h = has_first line h
 has_first (Buffer a ∷ line) h = has_first line h
+has_first (Silent ms ∷ line) h = has_first line h
 
 counted : (test : ℕ → Bool) (z n : ℕ) → test z ≡ true → z < n → 0 < count_below test n
 unfolding count_below
@@ -57,11 +60,14 @@ no_zone_at line v at =
     let some = counted (has_zone line) (zone_id line) 17 h most in
     omega arith
 
-pub starts : (line : Line) (p : Plain) (zone : ZoneKept) → is_line line ≡ true → count_by is_any_zone line ≤ 1 → p ≡ plain_start (zone_id line) → IsZoneOn line zone → IsKept line [] p zone
-unfolding Kept story_of
-starts line p zone v one h on = record {
+pub starts : (line : Line) (p : Plain) (t : Taken) (zone : ZoneKept) → is_line line ≡ true → count_by is_any_zone line ≤ 1 → p ≡ plain_start (zone_id line) → t ≡ taken_start → IsZoneOn line zone → IsKept line [] p t zone
+unfolding Kept story_of taken_most AllOn
+starts line p t zone v one h none on = record {
   one_zone = record { valid = v; one = one };
   kept = tt;
   linked = rw h (linked_start line);
+  taken_zone = ap (λ (x : Taken). x.by_zone) none;
+  taken_world = ap (λ (x : Taken). x.by_world) none;
   on_line = on;
+  world_on = rw h (record { valid = v; each = tt });
 }

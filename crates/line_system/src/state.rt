@@ -1,17 +1,17 @@
 //! The state that a script leaves: the world, the zone, and the messages that went out on the links between them.
-ghost use Rattle.std.specs.Prelude.{◌≡◌, ◌++◌, ◌-◌, [], ◌∷◌, ◌&&◌, not, nat_eq, is_some, slice_get, Some, IfOk, OnOk};
+ghost use Rattle.std.specs.Prelude.{◌≡◌, ◌++◌, ◌-◌, ◌&&◌, [], true, not, max, length, nat_eq, nat_lt, nat_le, is_some, slice_get, IfOk, OnOk};
 ghost use Rattle.std.specs.List.{list_all};
-ghost use Rattle.definitions.specs.Track.{ranged};
-ghost use Rattle.definitions.specs.Premises.{on_line, is_actor};
+ghost use Rattle.definitions.specs.Track.{ranged, is_actor};
+ghost use Rattle.definitions.specs.Premises.{on_line, ascending};
 ghost use Rattle.definitions.specs.Story.{to_actor};
 ghost use Rattle.definitions.specs.Steps.{nothing};
 ghost use Rattle.plain_state.specs.World.{find_train, world_event_effect, world_event_next, world_take_effect, world_take_next};
 ghost use Rattle.plain_state.specs.Zone.{zone_take_effect, zone_take_next};
 ghost use Rattle.plain_state.specs.Plain.{link, plain_start, by_world, by_zone, taken_effect, taken_next, plain_effect, plain_next};
-ghost use Rattle.plain_state.specs.Admits.{plain_built, plain_too_many, plain_takes, plain_premise};
-ghost use Rattle.world_sim.specs.World.{StepFits};
-ghost use Rattle.zone_state.specs.Zone.{IsZoneOn};
-ghost use Rattle.line_system.specs.State.{plain};
+ghost use Rattle.plain_state.specs.Admits.{plain_built, plain_too_many, plain_takes, plain_premise, is_known, world_premise};
+ghost use Rattle.world_sim.specs.World.{StepFits, IsBuilt, IsWorldOn};
+ghost use Rattle.zone_state.specs.Zone.{IsZoneOn, InRange};
+ghost use Rattle.line_system.specs.State.{plain, taken, taken_start, taken_with, taken_behind, TakenInRange, EventInRange, due_of};
 
 use definitions::event::Event;
 use definitions::message::Msg;
@@ -22,11 +22,11 @@ use track_points::{DirSeg, TrainId, ZoneId};
 use world_sim::{Premise, World};
 use zone_state::Zone;
 
-/// A greatest speed in its range, in mm/s.
-fn is_speed(speed: u32) -> bool
-    ensures { result ≡ ranged 1 60000 speed }
+/// Whether a number lies from one to another.
+fn is_ranged(least: u32, most: u32, number: u32) -> bool
+    ensures { result ≡ ranged least most number }
 {
-    1 <= speed && speed <= 60_000
+    least <= number && number <= most
 }
 
 fn is_actor(line: &Line, actor: u8) -> bool
@@ -80,6 +80,17 @@ fn message_at(messages: &[Msg], number: u32) -> Option<Msg>
     }
 }
 
+/// Whether trains ascend.
+#[tactic(auto, unfolding(definitions::specs::Premises::ascending))]
+fn are_ascending(train: u16, moves: &[(TrainId, u32)]) -> bool
+    ensures { result ≡ ascending train moves.now }
+{
+    match moves {
+        [] => true,
+        [(next, _), rest @ ..] => train < next.0 && are_ascending(next.0, rest),
+    }
+}
+
 /// What a script leaves.
 #[derive(Drop)]
 pub struct State {
@@ -87,12 +98,17 @@ pub struct State {
     zone: Zone,
     to_zone: Vec<Msg>,
     to_world: Vec<Msg>,
+    /// The greatest ordinal that the zone took.
+    taken_by_zone: u32,
+    /// The greatest ordinal that the world took.
+    taken_by_world: u32,
 }
 
 impl State {
     /// The state before the first event.
     pub fn new(alloc: Global, line: &Line, zone: ZoneId) -> Result<State, AllocError>
         ensures start { IfOk result (λ s. plain s ≡ plain_start zone.0) }
+        ensures taken { IfOk result (λ s. taken s ≡ taken_start) }
         ensures on_line { IfOk result (λ s. IsZoneOn line.now s.zone) }
     {
         Ok(State {
@@ -100,6 +116,8 @@ impl State {
             zone: Zone::start(alloc, line, zone)?,
             to_zone: Vec::new(alloc),
             to_world: Vec::new(alloc),
+            taken_by_zone: 0,
+            taken_by_world: 0,
         })
     }
 
@@ -130,19 +148,41 @@ impl State {
         self.world.find(train).is_some()
     }
 
+    fn are_declared(&self, moves: &[(TrainId, u32)]) -> bool
+        ensures { result ≡ list_all (is_known (plain self.now)) moves.now }
+    {
+        moves.iter().all(|one| self.is_declared(one.0))
+    }
+
     /// Whether an event names what is declared, and declares what is not, in a form that is built.
     pub fn is_built(&self, line: &Line, event: &Event) -> bool
         ensures { result ≡ plain_built line.now (plain self.now) event.now }
     {
         match event {
-            Event::Train(train, _, _, speed, _) => is_speed(*speed) && !self.is_declared(*train),
+            Event::Train(train, length, error, speed, _) => {
+                is_ranged(1, 65_535, u32::from(train.0))
+                    && (is_ranged(1, 1_000_000, *length)
+                        && (*error < *length
+                            && (is_ranged(1, 60_000, *speed) && !self.is_declared(*train))))
+            }
             Event::Entry(train, step) => self.is_declared(*train) && line.begins_at_portal(*step),
             Event::Enter(train) => self.is_declared(*train),
             Event::Ask(train, zone, steps, _) => {
                 self.is_declared(*train)
                     && (line.has_zone(*zone) && are_on_line(line, steps.as_slice()))
             }
+            Event::Step(ms, moves) => {
+                is_ranged(1, 60_000, *ms)
+                    && (are_ascending(0, moves.as_slice()) && self.are_declared(moves.as_slice()))
+            }
+            Event::Report(train, zone, step, _, _) => {
+                self.is_declared(*train) && (line.has_zone(*zone) && is_on_line(line, *step))
+            }
+            Event::Time(zone, train) => {
+                line.has_zone(*zone) && (train.0 == 0 || self.is_declared(*train))
+            }
             Event::Take(to, from, _) => is_link(line, *to, *from),
+            Event::Deliver(to) => is_actor(line, *to),
         }
     }
 
@@ -179,47 +219,62 @@ impl State {
     /// The world takes its own step.
     fn world_steps(&mut self, line: &Line, event: &Event, outs: &mut Outs) -> Result<(), AllocError>
         requires empty { outs.old ≡ nothing }
-        requires fits { StepFits (plain self.old).world event.now }
+        requires world_on { IsWorldOn line.now self.old.world }
+        requires fits { StepFits self.old.world event.now }
+        requires built { IsBuilt event.now }
+        requires kept { world_premise self.old.world event.now ≡ 0 }
         ensures gives { OnOk result (outs.new ≡ world_event_effect line.now (plain self.old).world event.now) }
-        ensures next { OnOk result (plain self.new ≡ by_world (plain self.old) (world_event_next (plain self.old).world event.now) (world_event_effect line.now (plain self.old).world event.now)) }
+        ensures next { OnOk result (plain self.new ≡ by_world (plain self.old) (world_event_next line.now (plain self.old).world event.now) (world_event_effect line.now (plain self.old).world event.now)) }
         ensures same { OnOk result (self.new.zone ≡ self.old.zone) }
+        ensures taken { OnOk result (taken self.new ≡ taken self.old) }
+        ensures world_on { OnOk result (IsWorldOn line.now self.new.world) }
     {
         self.world.step(line, event, outs);
         post(&mut self.to_zone, self.zone.id(), outs.messages())
     }
 
-    /// The world takes a message.
+    /// The world takes a message, by its ordinal.
     fn world_takes(
         &mut self,
         line: &Line,
         from: u8,
+        number: u32,
         message: &Msg,
         outs: &mut Outs,
     ) -> Result<(), AllocError>
         requires empty { outs.old ≡ nothing }
+        requires world_on { IsWorldOn line.now self.old.world }
         ensures gives { OnOk result (outs.new ≡ world_take_effect line.now (plain self.old).world from message.now) }
         ensures next { OnOk result (plain self.new ≡ by_world (plain self.old) (world_take_next line.now (plain self.old).world from message.now) (world_take_effect line.now (plain self.old).world from message.now)) }
         ensures same { OnOk result (self.new.zone ≡ self.old.zone) }
+        ensures taken { OnOk result (taken self.new ≡ record { by_zone = self.old.taken_by_zone; by_world = max number self.old.taken_by_world }) }
+        ensures world_on { OnOk result (IsWorldOn line.now self.new.world) }
     {
         self.world.take(line, from, message, outs);
+        self.taken_by_world = number.max(self.taken_by_world);
         post(&mut self.to_zone, self.zone.id(), outs.messages())
     }
 
-    /// The zone takes a message.
+    /// The zone takes a message, by its ordinal.
     fn zone_takes(
         &mut self,
         line: &Line,
         from: u8,
+        number: u32,
         message: &Msg,
         outs: &mut Outs,
     ) -> Result<(), AllocError>
         requires empty { outs.old ≡ nothing }
         requires on_line { IsZoneOn line.now self.old.zone }
+        requires range { InRange message.now }
         ensures gives { OnOk result (outs.new ≡ zone_take_effect line.now (plain self.old).zone from message.now) }
         ensures next { OnOk result (plain self.new ≡ by_zone (plain self.old) (zone_take_next line.now (plain self.old).zone from message.now) (zone_take_effect line.now (plain self.old).zone from message.now)) }
         ensures on_line { OnOk result (IsZoneOn line.now self.new.zone) }
+        ensures taken { OnOk result (taken self.new ≡ record { by_zone = max number self.old.taken_by_zone; by_world = self.old.taken_by_world }) }
+        ensures same { OnOk result (self.new.world ≡ self.old.world) }
     {
         self.zone.step(line, message, from, outs);
+        self.taken_by_zone = number.max(self.taken_by_zone);
         post(&mut self.to_world, 0, outs.messages())
     }
 
@@ -235,34 +290,60 @@ impl State {
     ) -> Result<(), AllocError>
         requires empty { outs.old ≡ nothing }
         requires on_line { IsZoneOn line.now self.old.zone }
+        requires world_on { IsWorldOn line.now self.old.world }
+        requires range { TakenInRange (slice_get (link (plain self.old) from to) (number - 1)) }
+        requires there { nat_lt 0 number && nat_le number (length (link (plain self.old) from to)) ≡ true }
         ensures gives { OnOk result (outs.new ≡ taken_effect line.now (plain self.old) to from (slice_get (link (plain self.old) from to) (number - 1))) }
         ensures next { OnOk result (plain self.new ≡ taken_next line.now (plain self.old) to from (slice_get (link (plain self.old) from to) (number - 1))) }
+        ensures taken { OnOk result (taken self.new ≡ taken_with to number (taken self.old)) }
         ensures on_line { OnOk result (IsZoneOn line.now self.new.zone) }
+        ensures world_on { OnOk result (IsWorldOn line.now self.new.world) }
     {
         match message_at(self.link(from, to), number) {
-            None => Ok(()),
+            None => unreachable!(),
             Some(message) => {
                 if to == 0 {
-                    self.world_takes(line, from, &message, outs)
+                    self.world_takes(line, from, number, &message, outs)
                 } else {
-                    self.zone_takes(line, from, &message, outs)
+                    self.zone_takes(line, from, number, &message, outs)
                 }
             }
         }
     }
 
-    /// One event more, and what it gives. Where there is no memory for it, the state is to be given up.
+    /// One event more that is no delivery, and what it gives. Where there is no memory for it, the state is to be given up.
     pub fn step(&mut self, line: &Line, event: &Event, outs: &mut Outs) -> Result<(), AllocError>
         requires empty { outs.old ≡ nothing }
         requires on_line { IsZoneOn line.now self.old.zone }
-        requires fits { StepFits (plain self.old).world event.now }
+        requires world_on { IsWorldOn line.now self.old.world }
+        requires fits { StepFits self.old.world event.now }
+        requires built { IsBuilt event.now }
+        requires kept { plain_premise (plain self.old) event.now ≡ 0 }
+        requires range { EventInRange (plain self.old) event.now }
         ensures gives { OnOk result (outs.new ≡ plain_effect line.now (plain self.old) event.now) }
         ensures next { OnOk result (plain self.new ≡ plain_next line.now (plain self.old) event.now) }
+        ensures taken { OnOk result (taken self.new ≡ taken_behind event.now (taken self.old)) }
         ensures on_line { OnOk result (IsZoneOn line.now self.new.zone) }
+        ensures world_on { OnOk result (IsWorldOn line.now self.new.world) }
     {
         match event {
             Event::Take(to, from, number) => self.take(line, *to, *from, *number, outs),
             _ => self.world_steps(line, event, outs),
+        }
+    }
+
+    /// The sender of the messages to an actor of the line, the greatest ordinal of them that it took, and how many were sent.
+    pub fn due(&self, to: u8) -> (u8, usize, usize)
+        ensures { result ≡ due_of (plain self.now) (taken self.now) to }
+    {
+        if to == 0 {
+            (
+                self.zone.id(),
+                self.taken_by_world as usize,
+                self.to_world.len(),
+            )
+        } else {
+            (0, self.taken_by_zone as usize, self.to_zone.len())
         }
     }
 }

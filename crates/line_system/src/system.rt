@@ -1,14 +1,17 @@
 //! The system of a line: the history of its script, and what that leaves.
-ghost use Rattle.std.specs.Prelude.{◌≡◌, ◌<◌, ◌≤◌, ◌-◌, ◌^◌, [], true, false, count_by, length, IfOk};
+ghost use Rattle.std.specs.Prelude.{◌≡◌, ◌≤◌, ◌++◌, ◌∷◌, [], true, false, count_by, length, IfOk, OnOk};
 ghost use Rattle.definitions.specs.Rules.{is_line, is_any_zone};
 ghost use Rattle.definitions.specs.Premises.{built, too_many, premise_of};
-ghost use Rattle.definitions.specs.Steps.{nothing, story_of};
+ghost use Rattle.definitions.specs.Track.{is_actor};
+ghost use Rattle.definitions.specs.Steps.{nothing, effects, story_of, deliveries};
+ghost use Rattle.definitions.specs.Trace.{went, stands_for};
 ghost use Rattle.plain_state.specs.Plain.{zone_id};
 ghost use Rattle.line_system.specs.History.{History};
 ghost use Rattle.line_system.specs.System.{Answers};
 
 use crate::state::State;
 use definitions::event::Event;
+use definitions::outcome::Outcome;
 use line_map::Line;
 use msg_codec::Outs;
 use std::alloc::{AllocError, Global};
@@ -39,14 +42,14 @@ pub struct System {
 impl Model for System {
     ghost use Rattle.std.specs.Prelude.{◌≡◌, reverse};
     ghost use Rattle.line_system.specs.History.{History};
-    ghost use Rattle.line_system.specs.State.{plain};
+    ghost use Rattle.line_system.specs.State.{plain, taken};
     ghost use Rattle.line_system.specs.Kept.{IsKept};
 
     ghost Value = { History };
 
     ghost view = { λ s. record { line = s.line; events = reverse s.events.items } };
 
-    ghost invariant = { λ s. IsKept s.line (reverse s.events.items) (plain s.state) s.state.zone };
+    ghost invariant = { λ s. IsKept s.line (reverse s.events.items) (plain s.state) (taken s.state) s.state.zone };
 }
 
 /// What the system answers to an event.
@@ -58,8 +61,24 @@ pub enum Answer {
     TooMany,
     /// It breaks the premise of this number, the least of those that it breaks. The script ends.
     Premise(u8),
-    /// It goes. The system has it in its history.
+    /// It goes. The system has it in its history, a delivery as its takes.
     Goes(System),
+}
+
+/// A history never grows to this: its events would take 200 GB. It is a want of memory.
+const MOST_EVENTS: usize = 100_000_000;
+
+/// Adds outcome lines.
+fn append(lines: &mut Vec<Outcome>, more: &[Outcome]) -> Result<(), AllocError>
+    ensures { OnOk result (lines.new.items ≡ lines.old.items ++ more.now) }
+{
+    match more {
+        [] => Ok(()),
+        [first, rest @ ..] => {
+            lines.push(*first)?;
+            append(lines, rest)
+        }
+    }
 }
 
 impl System {
@@ -76,13 +95,6 @@ impl System {
             events: Vec::with_capacity(alloc, 64)?,
             state,
         })
-    }
-
-    /// How many events there were.
-    pub fn count(&self) -> u64
-        ensures { result ≡ length self.now.events }
-    {
-        self.events.len() as u64
     }
 
     /// Whether an event names what is declared, and declares what is not, in a form that is built.
@@ -104,40 +116,95 @@ impl System {
     /// The number of the least premise that an event breaks, 0 for none.
     fn premise(&self, event: &Event) -> u8
         requires { built self.now.line (story_of self.now.line self.now.events) event.now ≡ true }
-        ensures { result ≡ premise_of (story_of self.now.line self.now.events) event.now }
+        ensures { result ≡ premise_of self.now.line (story_of self.now.line self.now.events) event.now }
     {
         self.state.premise(&self.line, event)
     }
 
-    /// An event that goes.
-    fn go(self, event: Event, outs: &mut Outs) -> Result<Answer, AllocError>
-        requires few { length self.events < 2 ^ 32 - 4 }
-        requires empty { outs.old ≡ nothing }
+    /// An event that goes and is no delivery. Its outcome lines are added to `lines`; `outs` is room for what it gives.
+    fn go(
+        self,
+        event: Event,
+        outs: &mut Outs,
+        lines: &mut Vec<Outcome>,
+    ) -> Result<System, AllocError>
         requires built { built self.line (story_of self.line self.events) event ≡ true }
         requires within { too_many (story_of self.line self.events) event ≡ false }
-        requires kept { premise_of (story_of self.line self.events) event ≡ 0 }
-        ensures { IfOk result (λ a. Answers self event a outs.new) }
+        requires kept { premise_of self.line (story_of self.line self.events) event ≡ 0 }
+        ensures history { IfOk result (λ s. s ≡ record { line = self.line; events = event ∷ self.events }) }
+        ensures lines { OnOk result (lines.new.items ≡ lines.old.items ++ (effects self.line (story_of self.line self.events) event).lines) }
     {
+        if self.events.len() >= MOST_EVENTS {
+            return Err(AllocError);
+        }
         let System {
             line,
             mut events,
             mut state,
         } = self;
+        outs.clear();
         state.step(&line, &event, outs)?;
+        append(lines, outs.lines())?;
         events.push(event)?;
-        Ok(Answer::Goes(System {
+        Ok(System {
             line,
             events,
             state,
-        }))
+        })
     }
 
-    /// Answers an event. What it gives is put into `outs`, which is empty; a refused event gives nothing. Where there is no
-    /// memory for it, the system is given up.
-    pub fn take(self, event: Event, outs: &mut Outs) -> Result<Answer, AllocError>
-        requires few { length self.events < 2 ^ 32 - 4 }
-        requires empty { outs.old ≡ nothing }
-        ensures { IfOk result (λ a. Answers self event a outs.new) }
+    /// A delivery to an actor of the line: the takes that it stands for, one behind the other.
+    fn deliver(
+        self,
+        to: u8,
+        outs: &mut Outs,
+        lines: &mut Vec<Outcome>,
+    ) -> Result<System, AllocError>
+        requires { is_actor self.line to ≡ true }
+        ensures history { IfOk result (λ s. s ≡ record { line = self.line; events = (went self.line self.events (deliveries self.line (story_of self.line self.events) to)).events }) }
+        ensures lines { OnOk result (lines.new.items ≡ lines.old.items ++ (went self.line self.events (deliveries self.line (story_of self.line self.events) to)).lines) }
+    {
+        let (from, taken, sent) = self.state.due(to);
+        if sent >= MOST_EVENTS {
+            return Err(AllocError);
+        }
+        let mut system = self;
+        for number in taken..sent {
+            let take = Event::Take(to, from, number as u32 + 1);
+            system = system.go(take, outs, lines)?;
+        }
+        Ok(system)
+    }
+
+    /// An event that goes, a delivery as the takes that it stands for. Its outcome lines are added to `lines`; `outs` is room
+    /// for what one step gives.
+    fn go_on(
+        self,
+        event: Event,
+        outs: &mut Outs,
+        lines: &mut Vec<Outcome>,
+    ) -> Result<System, AllocError>
+        requires built { built self.line (story_of self.line self.events) event ≡ true }
+        requires within { too_many (story_of self.line self.events) event ≡ false }
+        requires kept { premise_of self.line (story_of self.line self.events) event ≡ 0 }
+        ensures history { IfOk result (λ s. s ≡ record { line = self.line; events = (went self.line self.events (stands_for self.line (story_of self.line self.events) event)).events }) }
+        ensures lines { OnOk result (lines.new.items ≡ lines.old.items ++ (went self.line self.events (stands_for self.line (story_of self.line self.events) event)).lines) }
+    {
+        match event {
+            Event::Deliver(to) => self.deliver(to, outs, lines),
+            _ => self.go(event, outs, lines),
+        }
+    }
+
+    /// Answers an event. Its outcome lines are added to `lines`; a refused event adds none. `outs` is room for what one step
+    /// gives. Where there is no memory for it, the system is given up.
+    pub fn read(
+        self,
+        event: Event,
+        outs: &mut Outs,
+        lines: &mut Vec<Outcome>,
+    ) -> Result<Answer, AllocError>
+        ensures { IfOk result (λ a. Answers self event a lines.old.items lines.new.items) }
     {
         if !self.is_built(&event) {
             return Ok(Answer::Unbuilt);
@@ -149,6 +216,6 @@ impl System {
         if premise != 0 {
             return Ok(Answer::Premise(premise));
         }
-        self.go(event, outs)
+        Ok(Answer::Goes(self.go_on(event, outs, lines)?))
     }
 }

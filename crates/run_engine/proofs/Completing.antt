@@ -8,8 +8,8 @@ use Rattle.document_laws.specs.Throughout.{SafeThroughout}
 use Rattle.document_laws.specs.Whole.{whole}
 use Rattle.document_laws.proofs.Throughout.{safe_throughout}
 use Rattle.document_laws.proofs.Whole.{document_gives, document_gives_nothing}
-use Rattle.story_laws.proofs.Safety.{safe_story}
-use Rattle.story_laws.proofs.Granting.{granted_story}
+use Rattle.safe_laws.proofs.Safety.{safe_story, granted_story}
+use Rattle.step_laws.proofs.Every.{sound_story}
 use Rattle.run_engine.specs.Running.{Gave, Ran, Causes}
 use Rattle.run_engine.specs.Complete.{Completed, NoFault, Complete}
 
@@ -40,4 +40,4 @@ complete_no_memory (Some bytes) before now r0 r w0 w = λ n. record { script = �
 
 -- the history that any bytes are is safe after each of its events, and each event added what it granted
 pub all_safe : (bytes : List ℕ) → SafeThroughout bytes
-all_safe bytes = safe_throughout (λ line events l k. record { safe = safe_story line events l k; granted = granted_story line events l k }) bytes
+all_safe bytes = safe_throughout (λ line events l k. record { safe = safe_story line events l k (λ t ts h. sound_story line t ts l h); granted = granted_story line events l k (λ t ts h. sound_story line t ts l h) }) bytes

@@ -25,11 +25,11 @@ use Rattle.run_engine.specs.declared.pump.Cut.TheVariants as cuts
 use Rattle.run_engine.specs.Shown.{done_early}
 use Rattle.run_engine.specs.Running.{AtEnd, status_of_cut}
 
-built_never : (n : ℕ) (line : Line) (events : List Event) (s : Story) (e : Event) → done_early (event_read n line events s e).stage ≡ false
-built_never n line events s e = by_test (built line s e)
+built_never : (n : ℕ) (line : Line) (events : List Event) (count : ℕ) (s : Story) (e : Event) → done_early (event_read n line events count s e).stage ≡ false
+built_never n line events count s e = by_test (built line s e)
     (λ y. by_test (too_many s e)
     (λ m. rw (y, m) refl)
-    (λ m. by_test (nat_eq (premise_of s e) 0) (λ p. rw (y, m, p) refl) (λ p. rw (y, m, p) refl)))
+    (λ m. by_test (nat_eq (premise_of line s e) 0) (λ p. rw (y, m, p) refl) (λ p. rw (y, m, p) refl)))
     (λ x. rw x refl)
 
 item_never : (n : ℕ) (items : List Item) (i : Item) (second : Bool) (rule : ℕ) → done_early (item_read n items i second rule) ≡ false
@@ -44,16 +44,16 @@ never_done n (Items items) (says.Item i) h = item_never n items i (second_zone i
 never_done n (Items items) says.Script h = by_test (nat_eq (finish_rule items) 0) (λ y. rw y refl) (λ x. rw x refl)
 never_done n (Items items) (says.Event e) h = refl
 never_done n (Items items) says.Strange h = refl
-never_done n (Script line events) says.Passed h = refl
-never_done n (Script line events) (says.Item i) h = refl
-never_done n (Script line events) says.Script h = refl
-never_done n (Script line events) (says.Event e) h = built_never n line events (story_of line events) e
-never_done n (Script line events) says.Strange h = refl
+never_done n (Script line events count) says.Passed h = refl
+never_done n (Script line events count) (says.Item i) h = refl
+never_done n (Script line events count) says.Script h = refl
+never_done n (Script line events count) (says.Event e) h = built_never n line events count (story_of line events) e
+never_done n (Script line events count) says.Strange h = refl
 
 over_ends : (n : ℕ) (s : Stage) → is_over s ≡ true → done_early s ≡ false → status_of (stage_ends n s) ≡ status.Done → ⊥
 unfolding stage_ends
 over_ends n (Items items) h k e = cc
-over_ends n (Script line events) h k e = cc
+over_ends n (Script line events count) h k e = cc
 over_ends n (Over ends.Usage) h k e = cc
 over_ends n (Over (ends.Done m)) h k e = cc
 over_ends n (Over (ends.Rule m r)) h k e = cc

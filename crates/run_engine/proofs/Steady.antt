@@ -1,10 +1,10 @@
 -- One zone at most, and no more events than text lines.
-use Rattle.std.proofs.Common.{◌≡◌, ℕ, ◌+◌, ◌≤◌, List, [], ◌∷◌, ◌++◌, length, Bool, true, false, ◌||◌, refl, arith}
+use Rattle.std.proofs.Common.{◌≡◌, ℕ, ◌+◌, ◌≤◌, List, [], ◌∷◌, ◌++◌, Bool, true, false, ◌||◌, refl, arith}
 use Rattle.std.proofs.lemmas.List.Sums.{sum_by-append}
 use Rattle.std.specs.Prelude.{nat_eq, cond, count_by}
 use Rattle.std.specs.List.{list_any}
 use Rattle.definitions.specs.declared.item.Item.{Item}
-use Rattle.definitions.specs.declared.item.Item.TheVariants.{Zone, Segment, Joint, Portal, Buffer}
+use Rattle.definitions.specs.declared.item.Item.TheVariants.{Zone, Segment, Joint, Portal, Buffer, Silent}
 use Rattle.definitions.specs.declared.event.Event.{Event}
 use Rattle.definitions.specs.declared.document.TextLine.{TextLine}
 use Rattle.definitions.specs.declared.document.TextLine.TheVariants as says
@@ -38,6 +38,7 @@ more_counts items (Segment s z len) e h = omega (arith, h, zones_append items (S
 more_counts items (Joint a b) e h = omega (arith, h, zones_append items (Joint a b ∷ []))
 more_counts items (Portal a) e h = omega (arith, h, zones_append items (Portal a ∷ []))
 more_counts items (Buffer a) e h = omega (arith, h, zones_append items (Buffer a ∷ []))
+more_counts items (Silent ms) e h = omega (arith, h, zones_append items (Silent ms ∷ []))
 
 item_steady : (n m : ℕ) (items : List Item) (i : Item) (rule : ℕ) (second : Bool) → second_zone items i ≡ second → count_by is_any_zone items ≤ 1 → Steady m (item_read n items i second rule)
 item_steady n m items i rule true e h = tt
@@ -50,11 +51,11 @@ script_steady n m items rule = by_test (nat_eq rule 0)
     (λ y. rw y (omega arith))
     (λ x. rw x tt)
 
-event_steady : (n m : ℕ) (line : Line) (events : List Event) (s : Story) (e : Event) → length events ≤ m → Steady (m + 1) (event_read n line events s e).stage
-event_steady n m line events s e h = by_test (built line s e)
+event_steady : (n m : ℕ) (line : Line) (events : List Event) (count : ℕ) (s : Story) (e : Event) → count ≤ m → Steady (m + 1) (event_read n line events count s e).stage
+event_steady n m line events count s e h = by_test (built line s e)
     (λ y. by_test (too_many s e)
     (λ m. rw (y, m) tt)
-    (λ m. by_test (nat_eq (premise_of s e) 0) (λ p. rw (y, m, p) (omega (arith, h))) (λ p. rw (y, m, p) tt)))
+    (λ m. by_test (nat_eq (premise_of line s e) 0) (λ p. rw (y, m, p) (omega (arith, h))) (λ p. rw (y, m, p) tt)))
     (λ x. rw x tt)
 
 pub steady_read : (n m : ℕ) (s : Stage) (t : TextLine) → Steady m s → Steady (m + 1) (stage_read n s t).stage
@@ -65,8 +66,8 @@ steady_read n m (Items items) (says.Item i) h = item_steady n (m + 1) items i (r
 steady_read n m (Items items) says.Script h = script_steady n (m + 1) items (finish_rule items)
 steady_read n m (Items items) (says.Event e) h = tt
 steady_read n m (Items items) says.Strange h = tt
-steady_read n m (Script line events) says.Passed h = omega (arith, h)
-steady_read n m (Script line events) (says.Item i) h = tt
-steady_read n m (Script line events) says.Script h = tt
-steady_read n m (Script line events) (says.Event e) h = event_steady n m line events (story_of line events) e h
-steady_read n m (Script line events) says.Strange h = tt
+steady_read n m (Script line events count) says.Passed h = omega (arith, h)
+steady_read n m (Script line events count) (says.Item i) h = tt
+steady_read n m (Script line events count) says.Script h = tt
+steady_read n m (Script line events count) (says.Event e) h = event_steady n m line events count (story_of line events) e h
+steady_read n m (Script line events count) says.Strange h = tt

@@ -1,21 +1,21 @@
 -- What the definitions see of the engine.
-use Rattle.std.specs.Prelude.{◌≡◌, ℕ, ◌≤◌, Bool, true, false, length, count_by}
+use Rattle.std.specs.Prelude.{◌≡◌, ℕ, ◌≤◌, List, Bool, true, false, count_by}
 use Rattle.definitions.specs.declared.document.Ending.TheVariants as ends
 use Rattle.definitions.specs.Rules.{is_any_zone}
 use Rattle.definitions.specs.Trace.{Stage, Items, Script, Over, After, Reading, input_limit}
-use Rattle.definitions.specs.Steps.{Effect}
+use Rattle.definitions.specs.declared.outcome.Outcome.{Outcome}
 use Rattle.run_engine.specs.declared.stage.Stage as code
 use Rattle.run_engine.specs.declared.stage.Stage.TheVariants as variants
 use Rattle.run_engine.specs.declared.stage.Reading as code_reading
 
 abbrev pub stage_shown : code.Stage → Stage
 stage_shown (variants.Items builder) = Items builder
-stage_shown (variants.Script system) = Script system.line system.events
+stage_shown (variants.Script system count) = Script system.line system.events count
 stage_shown (variants.Over ending) = Over ending
 
--- a stage, and what led to it
-abbrev pub after_shown : code.Stage → Effect → After
-after_shown s gives = record { stage = stage_shown s; lines = gives.lines }
+-- a stage, and the outcome lines that led to it
+abbrev pub after_shown : code.Stage → List Outcome → After
+after_shown s lines = record { stage = stage_shown s; lines = lines }
 
 abbrev pub reading_shown : code_reading.Reading → Reading
 reading_shown r = record { number = r.number; bytes = r.bytes; stage = stage_shown r.stage }
@@ -23,14 +23,14 @@ reading_shown r = record { number = r.number; bytes = r.bytes; stage = stage_sho
 -- no text line ends a document as done
 abbrev pub done_early : Stage → Bool
 done_early (Items items) = false
-done_early (Script line events) = false
+done_early (Script line events count) = false
 done_early (Over (ends.Done n)) = true
 done_early (Over ending) = false
 
--- behind so many text lines: there is one zone at most, and no more events than text lines
+-- behind so many text lines: there is one zone at most, and no more events were read than text lines
 abbrev pub Steady : ℕ → Stage → Type 0
 Steady n (Items items) = count_by is_any_zone items ≤ 1
-Steady n (Script line events) = length events ≤ n
+Steady n (Script line events count) = count ≤ n
 Steady n (Over ending) = Unit {0}
 
 -- the counts stay small

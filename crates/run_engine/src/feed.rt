@@ -23,13 +23,14 @@ pub enum Fault {
     Memory,
 }
 
-/// The whole text lines so far, the front of the one that has begun, and the room for what a text line gives.
+/// The whole text lines so far, the front of the one that has begun, and the room for what a step and a text line give.
 #[derive(Drop)]
 pub struct Feed {
     reading: Reading,
     kept: ArrayVec<u8, 4097>,
     size: u64,
     outs: Outs,
+    lines: Vec<Outcome>,
 }
 
 /// The outcome lines of a text line.
@@ -63,6 +64,7 @@ impl Feed {
             kept: ArrayVec::new(),
             size: 0,
             outs: Outs::new(alloc)?,
+            lines: Vec::new(alloc),
         })
     }
 
@@ -82,15 +84,18 @@ impl Feed {
         ensures next { OnOk result (feed_shown self.new ≡ opened (text_read (reading_shown self.old.reading) size self.old.kept.items).next) }
         ensures within { OnOk result (Within (feed_shown self.new)) }
     {
-        self.outs.clear();
-        match self
-            .reading
-            .text(alloc, size, self.kept.as_slice(), &mut self.outs)
-        {
+        self.lines.clear();
+        match self.reading.text(
+            alloc,
+            size,
+            self.kept.as_slice(),
+            &mut self.outs,
+            &mut self.lines,
+        ) {
             Ok(()) => {
                 self.kept.clear();
                 self.size = 0;
-                write_lines(self.outs.lines(), sink)
+                write_lines(self.lines.as_slice(), sink)
             }
             Err(_) => Err(Fault::Memory),
         }

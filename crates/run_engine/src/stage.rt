@@ -1,8 +1,8 @@
 //! Where a document stands between two text lines.
-ghost use Rattle.std.specs.Prelude.{◌≡◌, ◌+◌, ◌-◌, ◌<◌, ◌≤◌, ◌^◌, false, IfOk, OnOk, length, count_by};
+ghost use Rattle.std.specs.Prelude.{◌≡◌, [], ◌+◌, ◌-◌, ◌<◌, ◌≤◌, ◌^◌, false, IfOk, OnOk, length, count_by};
 ghost use Rattle.definitions.specs.Rules.{is_any_zone, rule_of, finish_rule};
 ghost use Rattle.definitions.specs.Trace.{second_zone, item_read, script_read, event_read, stage_read, stage_ends, text_read, input_limit};
-ghost use Rattle.definitions.specs.Steps.{nothing, story_of};
+ghost use Rattle.definitions.specs.Steps.{story_of};
 ghost use Rattle.definitions.specs.Endings.{status_of};
 ghost use Rattle.run_engine.specs.Faults.{Refuses};
 ghost use Rattle.run_engine.specs.Shown.{stage_shown, after_shown, reading_shown, Small, Steady};
@@ -10,6 +10,7 @@ ghost use Rattle.run_engine.specs.Shown.{stage_shown, after_shown, reading_shown
 use definitions::document::{Ending, TextLine};
 use definitions::event::Event;
 use definitions::item::Item;
+use definitions::outcome::Outcome;
 use document_text::read::text_line;
 use edge_io::status::Status;
 use line_map::{LineBuilder, LineFault};
@@ -21,11 +22,11 @@ use std::mem;
 /// The most bytes that an input may have.
 pub const INPUT_LIMIT: u64 = 67_108_864;
 
-/// Where a document stands: among its items, in its script, or over.
+/// Where a document stands: among its items, in its script behind so many events, or over.
 #[derive(Drop)]
 pub enum Stage {
     Items(LineBuilder),
-    Script(System),
+    Script(System, u64),
     Over(Ending),
 }
 
@@ -69,22 +70,30 @@ fn read_script(alloc: Global, n: u64, builder: LineBuilder) -> Result<Stage, All
     ensures { IfOk result (λ s. stage_shown s ≡ script_read n builder (finish_rule builder)) }
 {
     match builder.finish() {
-        Ok(line) => Ok(Stage::Script(System::start(alloc, line)?)),
+        Ok(line) => Ok(Stage::Script(System::start(alloc, line)?, 0)),
         Err(fault) => refused(n, fault),
     }
 }
 
-/// Text line n is an event. What it gives is put into `outs`, which is empty.
-fn read_event(n: u64, system: System, event: Event, outs: &mut Outs) -> Result<Stage, AllocError>
-    requires few { length system.events < 2 ^ 32 - 4 }
-    requires empty { outs.old ≡ nothing }
-    ensures { IfOk result (λ s. after_shown s outs.new ≡ event_read n system.line system.events (story_of system.line system.events) event) }
+/// Text line n is an event behind so many. Its outcome lines are added to `lines`, which is empty; `outs` is room for what one
+/// step gives.
+fn read_event(
+    n: u64,
+    system: System,
+    count: u64,
+    event: Event,
+    outs: &mut Outs,
+    lines: &mut Vec<Outcome>,
+) -> Result<Stage, AllocError>
+    requires small { count + 1 < 2 ^ 64 }
+    requires empty { lines.old.items ≡ [] }
+    ensures { IfOk result (λ s. after_shown s lines.new.items ≡ event_read n system.line system.events count (story_of system.line system.events) event) }
 {
-    match system.take(event, outs)? {
+    match system.read(event, outs, lines)? {
         Answer::Unbuilt => Ok(Stage::Over(Ending::Unbuilt(n))),
         Answer::TooMany => Ok(Stage::Over(Ending::Trains)),
         Answer::Premise(premise) => Ok(Stage::Over(Ending::Premise(n, premise))),
-        Answer::Goes(next) => Ok(Stage::Script(next)),
+        Answer::Goes(next) => Ok(Stage::Script(next, count + 1)),
     }
 }
 
@@ -96,11 +105,12 @@ fn read(
     stage: Stage,
     says: TextLine,
     outs: &mut Outs,
+    lines: &mut Vec<Outcome>,
 ) -> Result<Stage, AllocError>
     requires steady { Steady (n - 1) (stage_shown stage) }
     requires small { n ≤ input_limit + 1 }
-    requires empty { outs.old ≡ nothing }
-    ensures { IfOk result (λ s. after_shown s outs.new ≡ stage_read n (stage_shown stage) says) }
+    requires empty { lines.old.items ≡ [] }
+    ensures { IfOk result (λ s. after_shown s lines.new.items ≡ stage_read n (stage_shown stage) says) }
 {
     match stage {
         Stage::Over(ending) => Ok(Stage::Over(ending)),
@@ -110,9 +120,9 @@ fn read(
             TextLine::Script => read_script(alloc, n, builder),
             TextLine::Event(_) | TextLine::Strange => Ok(Stage::Over(Ending::Unbuilt(n))),
         },
-        Stage::Script(system) => match says {
-            TextLine::Passed => Ok(Stage::Script(system)),
-            TextLine::Event(event) => read_event(n, system, event, outs),
+        Stage::Script(system, count) => match says {
+            TextLine::Passed => Ok(Stage::Script(system, count)),
+            TextLine::Event(event) => read_event(n, system, count, event, outs, lines),
             TextLine::Item(_) | TextLine::Script | TextLine::Strange => Ok(Stage::Over(
                 Ending::Unbuilt(n),
             )),
@@ -144,7 +154,7 @@ fn ending(n: u64, stage: Stage) -> Ending
     match stage {
         Stage::Over(ending) => ending,
         Stage::Items(builder) => items_end(n, builder),
-        Stage::Script(system) => Ending::Done(system.count()),
+        Stage::Script(_, count) => Ending::Done(count),
     }
 }
 
@@ -190,12 +200,12 @@ impl Reading {
         match &self.stage {
             Stage::Over(_) => true,
             Stage::Items(_) => false,
-            Stage::Script(_) => false,
+            Stage::Script(_, _) => false,
         }
     }
 
-    /// One text line of so many bytes. What it gives is put into `outs`, which is empty. Behind want of memory the stage is
-    /// spent.
+    /// One text line of so many bytes. Its outcome lines are added to `lines`, which is empty; `outs` is room for what one step
+    /// gives. Behind want of memory the stage is spent.
     #[tactic(auto, unfolding(definitions::specs::Trace::text_read))]
     pub fn text(
         &mut self,
@@ -203,12 +213,13 @@ impl Reading {
         size: u64,
         text: &[u8],
         outs: &mut Outs,
+        lines: &mut Vec<Outcome>,
     ) -> Result<(), AllocError>
         requires small { Small (reading_shown self.old) }
         requires some { 1 ≤ size }
         requires bound { size ≤ input_limit + 1 }
-        requires empty { outs.old ≡ nothing }
-        ensures lines { OnOk result (outs.new.lines ≡ (text_read (reading_shown self.old) size text.now).lines) }
+        requires empty { lines.old.items ≡ [] }
+        ensures lines { OnOk result (lines.new.items ≡ (text_read (reading_shown self.old) size text.now).lines) }
         ensures next { OnOk result (reading_shown self.new ≡ (text_read (reading_shown self.old) size text.now).next) }
         ensures small { OnOk result (Small (reading_shown self.new)) }
     {
@@ -220,7 +231,7 @@ impl Reading {
             return Ok(());
         }
         let stage = mem::replace(&mut self.stage, Stage::Over(Ending::Input));
-        let stage = read(alloc, self.number + 1, stage, text_line(text), outs)?;
+        let stage = read(alloc, self.number + 1, stage, text_line(text), outs, lines)?;
         self.number += 1;
         self.bytes += size;
         self.stage = stage;

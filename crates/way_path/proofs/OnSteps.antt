@@ -8,10 +8,10 @@ use Rattle.track_points.specs.declared.path.Path.{Path}
 use Rattle.track_points.specs.Points.{Lengths, total, place_of_last, end_place, steps_to, visits, no_segment_twice}
 use Rattle.track_points.proofs.Some.{by_test}
 use Rattle.definitions.specs.declared.item.Item.{Item}
-use Rattle.definitions.specs.Track.{seg_len, zone_of, is_segment, has_segment, follows, joined}
-use Rattle.definitions.specs.Limit.{last_step}
+use Rattle.definitions.specs.Track.{seg_len, zone_of, is_segment, has_segment, follows, joined, last_step}
 use Rattle.definitions.specs.Ways.{chained, first_len, path_in_range}
-use Rattle.way_path.specs.Ways.{NotJoinedAt, RepeatedAt, IsFront, IsRear}
+use Rattle.way_laws.proofs.Cut.{last_place}
+use Rattle.way_path.specs.Ways.{NotJoinedAt, RepeatedAt}
 
 pub undeclared : (line : List Item) (s : ℕ) → has_segment line s ≡ false → seg_len line s ≡ 0
 unfolding seg_len
@@ -35,13 +35,6 @@ unfolding place_of_last
 last_alone len [] off h = absurd (omega arith)
 last_alone len (st ∷ []) off h = refl
 last_alone len (st ∷ next ∷ steps) off h = absurd (omega arith)
-
--- an offset within the last step is a place within the steps
-pub last_within : (len : Lengths) (steps : List DirSeg) (to : ℕ) → 0 < length steps → to ≤ len (last_step steps).seg.0 → place_of_last len steps to ≤ total len steps
-unfolding total place_of_last last_step
-last_within len [] to h k = absurd (omega arith)
-last_within len (st ∷ []) to h k = omega arith
-last_within len (st ∷ next ∷ steps) to h k = let r = last_within len (next ∷ steps) to (omega arith) k in omega arith
 
 pub few_steps_to : (len : Lengths) (steps : List DirSeg) (p : ℕ) → length (steps_to len steps p) ≤ length steps
 unfolding steps_to
@@ -122,33 +115,10 @@ pub once_none : no_segment_twice [] ≡ true
 unfolding no_segment_twice
 once_none = refl
 
--- a front and a rear behind the first step
+-- the first step, and those behind it
 pub rest_is : (steps : List DirSeg) (d : DirSeg) → 1 ≤ length steps → steps ≡ get_or steps 0 d ∷ take (length steps - 1) (drop 1 steps)
 rest_is [] d h = absurd (omega arith)
 rest_is (st ∷ steps) d h = ap (λ xs. st ∷ xs) (sym (take_all (length (st ∷ steps) - 1) steps (omega arith)))
-
-pub front_beyond : (len : Lengths) (st : DirSeg) (steps rest : List DirSeg) (p n : ℕ) (step : DirSeg) (off : ℕ) → steps ≡ st ∷ rest → n ≡ len st.seg.0 → n ≤ p
-    → IsFront len rest (p - n) step off → IsFront len steps p step off
-unfolding total
-front_beyond len st steps rest p n step off s e h f = record {
-  before = st ∷ f.before;
-  beyond = f.beyond;
-  split = s ∙ ap (λ xs. st ∷ xs) f.split;
-  place_is = let q = f.place_is in omega arith;
-  above = f.above;
-  on = f.on;
-}
-
-pub rear_beyond : (len : Lengths) (st : DirSeg) (steps rest : List DirSeg) (p n : ℕ) (step : DirSeg) (off : ℕ) → steps ≡ st ∷ rest → n ≡ len st.seg.0 → n ≤ p
-    → IsRear len rest (p - n) step off → IsRear len steps p step off
-unfolding total
-rear_beyond len st steps rest p n step off s e h f = record {
-  before = st ∷ f.before;
-  beyond = f.beyond;
-  split = s ∙ ap (λ xs. st ∷ xs) f.split;
-  place_is = let q = f.place_is in omega arith;
-  on = f.on;
-}
 
 pub in_its_range : (len : Lengths) (path : Path) → 0 < length path.steps.items → path.from ≤ first_len len path.steps.items
     → path.to ≤ len (last_step path.steps.items).seg.0 → path.from < end_place len path → path_in_range len path ≡ true
@@ -167,4 +137,4 @@ ends_at len path steps n m end st s some a b c d e f g =
     let lt : 0 < length path.steps.items = let r = rw s at some in omega arith in
     let to : path.to ≤ len (last_step path.steps.items).seg.0 = rw (← s, ← c, ← d) e in
     let p : end ≡ end_place len path = rw s at f in
-    (in_its_range len path lt (let x = rw s at a in omega arith) to (omega arith), p, rw p (last_within len path.steps.items path.to lt to))
+    (in_its_range len path lt (let x = rw s at a in omega arith) to (omega arith), p, rw p (last_place len path.steps.items path.to lt to))

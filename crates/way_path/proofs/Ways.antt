@@ -4,8 +4,7 @@ use Rattle.std.proofs.lemmas.List.{take-append-drop, length-take-le}
 use Rattle.track_points.specs.declared.ids.DirSeg.{DirSeg}
 use Rattle.track_points.specs.Points.{Lengths, total, place_of_last, steps_to, visits, no_segment_twice}
 use Rattle.definitions.specs.declared.item.Item.{Item}
-use Rattle.definitions.specs.Track.{seg_len, follows}
-use Rattle.definitions.specs.Limit.{last_step}
+use Rattle.definitions.specs.Track.{seg_len, follows, last_step}
 use Rattle.definitions.specs.Ways.{PlainWay, chained, first_len}
 use Rattle.way_laws.proofs.Cut.{cut_front, cut_some, cut_total, total_append}
 use Rattle.way_laws.proofs.Joined.{once_front, once_rest, chained_front, chained_rest, first_stays}

@@ -4,8 +4,7 @@ use Rattle.track_points.specs.declared.ids.DirSeg.{DirSeg}
 use Rattle.track_points.specs.declared.ids.ZoneId.{ZoneId}
 use Rattle.track_points.specs.declared.path.Path.{Path}
 use Rattle.track_points.specs.Points.{Lengths, Point, mm_at, total, end_place, visits, no_segment_twice}
-use Rattle.definitions.specs.Track.{Line, owner, seg_len, zone_of, follows}
-use Rattle.definitions.specs.Limit.{last_step}
+use Rattle.definitions.specs.Track.{Line, owner, seg_len, zone_of, follows, last_step}
 use Rattle.definitions.specs.Steps.{path_to}
 use Rattle.definitions.specs.Ways.{PlainWay, chained, first_len, path_in_range}
 use Rattle.way_path.specs.declared.way.WayFault.{WayFault}
@@ -64,23 +63,6 @@ Makes line mark path (Err OutOfRange) =
     (chained line path.steps.items ≡ true) × (no_segment_twice path.steps.items ≡ true) × (path_in_range (seg_len line) path ≡ false)
 Makes line mark path (Err Throats) = ⊥
 Makes line mark path (Err Full) = ⊥
-
--- where a front at a place is written: on the step where its offset is 1 to the length
-pub record IsFront (len : Lengths) (steps : List DirSeg) (place : ℕ) (step : DirSeg) (off : ℕ) : Type 0 where
-  pub before : List DirSeg
-  pub beyond : List DirSeg
-  pub split : steps ≡ before ++ step ∷ beyond
-  pub place_is : place ≡ total len before + off
-  pub above : 0 < off
-  pub on : off ≤ len step.seg.0
-
--- where a rear at a place is written: on the step where its offset is 0 to below the length
-pub record IsRear (len : Lengths) (steps : List DirSeg) (place : ℕ) (step : DirSeg) (off : ℕ) : Type 0 where
-  pub before : List DirSeg
-  pub beyond : List DirSeg
-  pub split : steps ≡ before ++ step ∷ beyond
-  pub place_is : place ≡ total len before + off
-  pub on : off < len step.seg.0
 
 -- the place of an offset on the journey's step of a mark; none where the way has no such step
 abbrev pub place_of : Lengths → PlainWay → ℕ → ℤ → Option ℤ

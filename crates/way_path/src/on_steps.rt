@@ -2,10 +2,9 @@
 ghost use Rattle.std.specs.Prelude.{◌≡◌, ◌≤◌, ◌<◌, ◌+◌, ◌*◌, ◌++◌, length, drop};
 ghost use Rattle.arrayvec.specs.ArrayVec.{array_vec_len};
 ghost use Rattle.track_points.specs.Points.{total, place_of_last, steps_to, offset_to, visits};
-ghost use Rattle.definitions.specs.Track.{seg_len, zone_of};
-ghost use Rattle.definitions.specs.Limit.{last_step};
-ghost use Rattle.definitions.specs.Ways.{first_len};
-ghost use Rattle.way_path.specs.Ways.{FirstNotJoined, FirstRepeated, EndsAt, IsFront, IsRear};
+ghost use Rattle.definitions.specs.Track.{seg_len, zone_of, last_step};
+ghost use Rattle.definitions.specs.Ways.{first_len, IsFront, IsRear};
+ghost use Rattle.way_path.specs.Ways.{FirstNotJoined, FirstRepeated, EndsAt};
 
 use arrayvec::ArrayVec;
 use line_map::Line;
@@ -37,7 +36,7 @@ pub fn zone_of(line: &Line, s: SegId) -> u8
 }
 
 /// The last of some steps; a step of no segment where there is none.
-#[tactic(auto, unfolding(definitions::specs::Limit::last_step))]
+#[tactic(auto, unfolding(definitions::specs::Track::last_step))]
 pub fn last_step(steps: &[DirSeg]) -> DirSeg
     ensures { result ≡ last_step steps.now }
 {

@@ -3,7 +3,8 @@ ghost use Rattle.std.specs.Prelude.{◌≡◌, ◌<◌, ◌≤◌, ◌+◌, ◌^
 ghost use Rattle.track_points.specs.Points.{Point, total, has_between};
 ghost use Rattle.track_points.specs.Sets.{set_has};
 ghost use Rattle.definitions.specs.Track.{owner, seg_len};
-ghost use Rattle.way_path.specs.Ways.{IsWay, OnLine, EndsWithPath, Makes, IsFront, IsRear, place_of, Extends, ended_at, Dropped};
+ghost use Rattle.definitions.specs.Ways.{IsFront, IsRear};
+ghost use Rattle.way_path.specs.Ways.{IsWay, OnLine, EndsWithPath, Makes, place_of, Extends, ended_at, Dropped};
 
 use crate::on_steps::{
     end_of, front_on, last_step, not_joined, offset_to, rear_on, repeated, steps_before,

@@ -1,2 +1,5 @@
 pub mod Listed
+pub mod Moving
+pub mod OnTrack
 pub mod Paths
+pub mod Stays

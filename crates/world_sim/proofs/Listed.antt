@@ -1,19 +1,22 @@
--- Trains found and changed in their list, and the zone of a segment that is not declared.
-use Rattle.std.proofs.Common.{◌≡◌, ℕ, zero, suc, ◌<◌, true, false, length, List, [], ◌∷◌, get_or, refl, sym, ap, ◌∙◌, arith, nat_eq, nat_lt, Some, None}
+-- Trains found and changed in their list.
+use Rattle.std.proofs.Common.{◌≡◌, ℕ, zero, suc, ◌<◌, ◌≤◌, true, false, length, List, [], ◌∷◌, ◌++◌, get_or, refl, sym, ap, subst, ◌∙◌, arith, nat_eq, nat_lt, Some, None}
 use Rattle.std.specs.List.{list_all, position_or_len, position}
 use Rattle.std.proofs.Math.ListN.{set}
 use Rattle.std.proofs.lemmas.Bool.Decides.{nat_tests}
 use Rattle.std.proofs.lemmas.List.Quantifiers.{position-Some}
 use Rattle.std.proofs.lemmas.List.Sums.{fails_before_first}
 use Rattle.track_points.proofs.Some.{by_test}
-use Rattle.definitions.specs.declared.item.Item.{Item}
-use Rattle.definitions.specs.Track.{is_segment, has_segment, zone_of}
+use Rattle.definitions.specs.Track.{Line}
+use Rattle.definitions.specs.Premises.{ascending}
 use Rattle.plain_state.specs.declared.WorldTrain.{WorldTrain}
-use Rattle.plain_state.specs.World.{PlainWorld, find_train, change_train}
-use Rattle.world_sim.specs.World.{speed_fits, put, is_train}
+use Rattle.plain_state.specs.World.{PlainWorld, find_train, change_train, moved_train}
+use Rattle.plain_state.specs.Admits.{may_move_found}
+use Rattle.track_points.specs.declared.ids.TrainId.{TrainId}
+use Rattle.way_laws.proofs.Lines.{both}
+use Rattle.world_sim.specs.World.{speed_fits, put, is_train, ascends, IsTrainOn, AllOn}
 
-abbrev as_world : List WorldTrain → PlainWorld
-as_world xs = record { trains = xs }
+abbrev as_world : ℕ → List WorldTrain → PlainWorld
+as_world clock xs = record { clock = clock; trains = xs }
 
 -- what is found of speeds that fit has a speed that fits
 pub found_fits : (t : ℕ) (x : WorldTrain) (xs : List WorldTrain) → find_train t xs ≡ Some x → list_all speed_fits xs ≡ true → speed_fits x ≡ true
@@ -31,12 +34,12 @@ put_found t f x (y ∷ xs) h = by_test (nat_eq y.id.0 t)
     (λ e. let same : Some y ≡ Some x = rw e at h in rw e cc)
     (λ e. rw e (ap (λ (zs : List WorldTrain). y ∷ zs) (put_found t f x xs (rw e at h))))
 
-pub replaced : (t : ℕ) (f : WorldTrain → WorldTrain) (x y : WorldTrain) (w v : PlainWorld) → v ≡ record { trains = change_train t (put y) w.trains } → y ≡ f x → Some x ≡ find_train t w.trains
-    → v ≡ record { trains = change_train t f w.trains }
+pub replaced : (t : ℕ) (f : WorldTrain → WorldTrain) (x y : WorldTrain) (w v : PlainWorld) → v ≡ record { clock = w.clock; trains = change_train t (put y) w.trains } → y ≡ f x → Some x ≡ find_train t w.trains
+    → v ≡ record { clock = w.clock; trains = change_train t f w.trains }
 replaced t f x y w v h e found =
     h
-    ∙ ap (λ (z : WorldTrain). as_world (change_train t (put z) w.trains)) e
-    ∙ ap as_world (put_found t f x w.trains (sym found))
+    ∙ ap (λ (z : WorldTrain). as_world w.clock (change_train t (put z) w.trains)) e
+    ∙ ap (as_world w.clock) (put_found t f x w.trains (sym found))
 
 -- nothing found, nothing changed
 pub none_found : (t : ℕ) (f : WorldTrain → WorldTrain) (xs : List WorldTrain) → find_train t xs ≡ None → change_train t f xs ≡ xs
@@ -53,6 +56,57 @@ put_fits t x [] h a = refl
 put_fits t x (y ∷ xs) h a = by_test (nat_eq y.id.0 t)
     (λ e. rw e (grind (arith, nat_tests)))
     (λ e. rw e (let more = put_fits t x xs h (grind (arith, nat_tests)) in grind (arith, nat_tests)))
+
+-- trains on the line: the one that is found, and those behind a change
+pub found_on : (line : Line) (t : ℕ) (x : WorldTrain) (xs : List WorldTrain) → find_train t xs ≡ Some x → AllOn line xs → IsTrainOn line x
+unfolding find_train AllOn
+found_on line t x [] h a = absurd cc
+found_on line t x (y ∷ xs) h a = by_test (nat_eq y.id.0 t)
+    (λ e. let same : Some y ≡ Some x = rw e at h in subst (IsTrainOn line) (cc) a.0)
+    (λ e. found_on line t x xs (rw e at h) a.1)
+
+pub changed_on : (line : Line) (t : ℕ) (f : WorldTrain → WorldTrain) (xs : List WorldTrain) → AllOn line xs
+    → ((x : WorldTrain) → find_train t xs ≡ Some x → IsTrainOn line x → IsTrainOn line (f x)) → AllOn line (change_train t f xs)
+unfolding find_train change_train AllOn
+changed_on line t f [] a g = a
+changed_on line t f (x ∷ xs) a g = by_test (nat_eq x.id.0 t)
+    (λ e. rw e (g x (rw e refl) a.0, a.1))
+    (λ e. rw e (a.0, changed_on line t f xs a.1 (λ y h on. g y (rw e h) on)))
+
+pub more_on : (line : Line) (y : WorldTrain) (xs : List WorldTrain) → IsTrainOn line y → AllOn line xs → AllOn line (xs ++ y ∷ [])
+unfolding AllOn
+more_on line y [] h a = (h, a)
+more_on line y (x ∷ xs) h a = (a.0, more_on line y xs h a.1)
+
+-- a change of one train is none of another
+found_apart : (t u : ℕ) (f : WorldTrain → WorldTrain) (xs : List WorldTrain) → ((x : WorldTrain) → (f x).id ≡ x.id) → nat_eq t u ≡ false
+    → find_train u (change_train t f xs) ≡ find_train u xs
+unfolding find_train change_train
+found_apart t u f [] s n = refl
+found_apart t u f (x ∷ xs) s n = by_test (nat_eq x.id.0 t)
+    (λ e.
+    let i : nat_eq x.id.0 u ≡ false = grind (arith, nat_tests) in
+    rw (e, s x, i) refl)
+    (λ e. rw e (by_test (nat_eq x.id.0 u) (λ y. rw y refl) (λ z. rw z (found_apart t u f xs s n))))
+
+-- trains that ascend leave the first one alone
+pub may_still : (line : Line) (x : TrainId × ℕ) (moves : List (TrainId × ℕ)) (t : ℕ) (trains : List WorldTrain) → x.0.0 ≤ t → ascending t moves ≡ true
+    → list_all (may_move_found trains) moves ≡ true → list_all (may_move_found (change_train x.0.0 (moved_train line x.1) trains)) moves ≡ true
+unfolding ascending
+may_still line x [] t trains l a h = refl
+may_still line x (y ∷ moves) t trains l a h =
+    let k = both (nat_lt t y.0.0) (ascending y.0.0 moves) a in
+    let m = both (may_move_found trains y) (list_all (may_move_found trains) moves) h in
+    let after : t < y.0.0 = let b = k.0 in grind (arith, nat_tests) in
+    let n : nat_eq x.0.0 y.0.0 ≡ false = grind (arith, nat_tests) in
+    let e = found_apart x.0.0 y.0.0 (moved_train line x.1) trains (λ z. refl) n in
+    let first : may_move_found (change_train x.0.0 (moved_train line x.1) trains) y ≡ true = rw e m.0 in
+    rw (first, may_still line x moves y.0.0 trains (omega arith) k.1 m.1) refl
+
+pub ascends_from : (t : ℕ) (moves : List (TrainId × ℕ)) → ascending t moves ≡ true → ascends moves ≡ true
+unfolding ascending
+ascends_from t [] h = refl
+ascends_from t (y ∷ moves) h = (both (nat_lt t y.0.0) (ascending y.0.0 moves) h).1
 
 changed_at : (t : ℕ) (f : WorldTrain → WorldTrain) (xs : List WorldTrain) (i : ℕ) (d : WorldTrain) → i < length xs → is_train t (get_or xs i d) ≡ true
     → ((k : ℕ) → k < i → is_train t (get_or xs k d) ≡ false) → set xs i (f (get_or xs i d)) ≡ change_train t f xs
@@ -81,11 +135,3 @@ kept_at t f (x ∷ xs) h =
 
 pub put_nowhere : (t : ℕ) (y : WorldTrain) (xs : List WorldTrain) → position (is_train t) xs ≡ None → xs ≡ change_train t (put y) xs
 put_nowhere t y xs h = kept_at t (put y) xs (none_at t xs h)
-
--- no declaration, no zone
-pub no_zone : (line : List Item) (s : ℕ) → has_segment line s ≡ false → zone_of line s ≡ 0
-unfolding zone_of
-no_zone [] s h = refl
-no_zone (i ∷ line) s h = by_test (is_segment s i)
-    (λ y. absurd (grind (arith, nat_tests)))
-    (λ n. rw n (no_zone line s (grind (arith, nat_tests))))

@@ -1,13 +1,19 @@
 -- What the world keeps of its trains besides the definitions, and what its calls ask and answer.
-use Rattle.std.specs.Prelude.{ℕ, ◌≡◌, ◌<◌, ◌^◌, Bool, true, false, List, length, nat_lt, nat_eq, Option, Some, None, Result, Ok, Err, ⊤}
+use Rattle.std.specs.Prelude.{ℕ, ◌≡◌, ◌<◌, ◌≤◌, ◌+◌, ◌-◌, ◌^◌, Bool, true, false, List, [], ◌∷◌, length, nat_lt, nat_eq, Option, Some, None, Result, Ok, Err, ⊤}
+use Rattle.track_points.specs.declared.ids.DirSeg.{DirSeg}
+use Rattle.track_points.specs.declared.ids.TrainId.{TrainId}
 use Rattle.track_points.specs.declared.path.Path.{Path}
-use Rattle.track_points.specs.Points.{end_place}
+use Rattle.track_points.specs.Points.{Lengths, total, end_place}
 use Rattle.definitions.specs.declared.event.Event.{Event}
-use Rattle.definitions.specs.declared.event.Event.TheVariants.{Train}
-use Rattle.definitions.specs.declared.message.Msg.{Msg}
-use Rattle.definitions.specs.Track.{Line, seg_len}
+use Rattle.definitions.specs.declared.event.Event.TheVariants.{Train, Step}
+use Rattle.definitions.specs.Track.{Line, seg_len, track_from, track_to}
+use Rattle.definitions.specs.Rules.{is_line}
+use Rattle.definitions.specs.Premises.{on_line, ascending}
+use Rattle.definitions.specs.Ways.{front_at}
+use Rattle.plain_state.specs.declared.EntryAuthority.{EntryAuthority}
+use Rattle.plain_state.specs.declared.Head.{Head}
 use Rattle.plain_state.specs.declared.WorldTrain.{WorldTrain}
-use Rattle.plain_state.specs.World.{PlainWorld, auth_fits, world_heeds}
+use Rattle.plain_state.specs.World.{PlainWorld, auth_fits, lies_on, room_on, heeded_by, took_by}
 use Rattle.world_sim.specs.declared.world.Premise.{Premise}
 
 -- a message carries the speed in 16 bits
@@ -21,22 +27,84 @@ put y x = y
 abbrev pub is_train : ℕ → WorldTrain → Bool
 is_train t x = nat_eq x.id.0 t
 
--- a declaration needs room for one more train, and its speed fits a message
+-- trains that ascend, from whichever is the first
+abbrev pub ascends : List (TrainId × ℕ) → Bool
+ascends [] = true
+ascends (x ∷ moves) = ascending x.0.0 moves
+
+-- a declaration needs room for one more train, and its speed fits a message; a step, a clock that does not run over
 abbrev pub StepFits : PlainWorld → Event → Type 0
 StepFits w (Train t long error speed kind) = (length w.trains < 256) × (speed < 2 ^ 16)
+StepFits w (Step ms moves) = w.clock + ms < 2 ^ 63
 StepFits w _ = ⊤
 
--- an event goes exactly where the world enters rightly, and breaks premise 5 else
-abbrev pub Admits : Bool → Result ⊤ Premise → Type 0
-Admits enters (Ok _) = enters ≡ true
-Admits enters (Err premise) = (enters ≡ false) × (premise.0 ≡ 5)
+-- what the world needs of an event's form
+abbrev pub IsBuilt : Event → Type 0
+IsBuilt (Train t long error speed kind) = 1 ≤ long
+IsBuilt (Step ms moves) = ascending 0 moves.items ≡ true
+IsBuilt _ = ⊤
+
+-- an event goes where no premise is broken, and is refused by the number of the one that is
+abbrev pub Admits : ℕ → Result ⊤ Premise → Type 0
+Admits number (Ok _) = number ≡ 0
+Admits number (Err premise) = (number ≡ premise.0) × (0 < premise.0)
+
+-- a place on the track from a step on, and a journey that can count the steps up to there
+pub record Reaches (line : Line) (st : DirSeg) (mark p : ℕ) : Type 0 where
+  pub steps : ℕ
+  pub within : p ≤ total (seg_len line) (track_from line (Some st) steps)
+  pub marks : mark + steps < 2 ^ 32
+
+-- a head on a declared step, at an offset of it that is 1 to the length, with this much track before it
+pub record IsHeadOn (line : Line) (room : ℕ) (h : Head) : Type 0 where
+  pub declared : on_line line h.step ≡ true
+  pub above : 0 < h.offset
+  pub on : h.offset ≤ seg_len line h.step.seg.0
+  pub track : Reaches line h.step h.mark (h.offset + room)
+
+abbrev pub HeadIs : Line → ℕ → Option Head → Type 0
+HeadIs line room None = ⊤
+HeadIs line room (Some h) = IsHeadOn line room h
+
+-- an entry authority is over the whole segment of the first request for entry, and the train is no longer than it
+abbrev pub EntryIs : Line → ℕ → Option DirSeg → Option EntryAuthority → Type 0
+EntryIs line long entry None = ⊤
+EntryIs line long None (Some authority) = ⊥
+EntryIs line long (Some step) (Some authority) = (on_line line step ≡ true) × (long ≤ authority.limit) × (authority.limit ≡ seg_len line step.seg.0)
+
+pub record IsTrainOn (line : Line) (x : WorldTrain) : Type 0 where
+  pub long : 0 < x.train_length
+  pub entry : EntryIs line x.train_length x.entry x.authority
+  pub head : HeadIs line x.room x.head
+
+unfoldable pub AllOn : Line → List WorldTrain → Type 0
+AllOn line [] = ⊤
+AllOn line (x ∷ xs) = IsTrainOn line x × AllOn line xs
+
+-- the world's trains are on its line, each with track before it up to the limit that it holds
+pub record IsWorldOn (line : Line) (w : PlainWorld) : Type 0 where
+  pub valid : is_line line ≡ true
+  pub each : AllOn line w.trains
+
+-- where a head is that has gone on to a place of the track from a step on
+abbrev pub moved_to : Line → DirSeg → ℕ → ℕ → Head
+moved_to line st mark p = record {
+  step = (front_at (seg_len line) (track_to line (Some st) p) p).0;
+  mark = mark + (length (track_to line (Some st) p) - 1);
+  offset = (front_at (seg_len line) (track_to line (Some st) p) p).1;
+}
 
 -- where the path of an authority ends; none where the authority is no authority on the line
-abbrev pub LimitIs : Line → ℕ → Path → Option ℕ → Type 0
-LimitIs line mark path (Some limit) = (auth_fits line mark path ≡ true) × (limit ≡ end_place (seg_len line) path)
-LimitIs line mark path None = auth_fits line mark path ≡ false
+abbrev pub EndIs : Line → ℕ → Path → Option ℕ → Type 0
+EndIs line mark path (Some end) = (auth_fits line mark path ≡ true) × (end ≡ end_place (seg_len line) path)
+EndIs line mark path None = auth_fits line mark path ≡ false
 
--- the limit of an authority that the world heeds
-abbrev pub Heeds : Line → List WorldTrain → Msg → Path → Option ℕ → Type 0
-Heeds line trains message path (Some limit) = (world_heeds line trains message ≡ true) × (limit ≡ end_place (seg_len line) path)
-Heeds line trains message path None = world_heeds line trains message ≡ false
+-- how far the end of an authority lies ahead of a head; none where the head does not lie on it
+abbrev pub RoomIs : Lengths → ℕ → Path → Head → Option ℕ → Type 0
+RoomIs len mark path h (Some room) = (lies_on len mark path h ≡ true) × (room ≡ room_on len mark path h)
+RoomIs len mark path h None = lies_on len mark path h ≡ false
+
+-- a train once it has taken an authority; none where it does not heed it
+abbrev pub Took : Lengths → ℕ → ℕ → ℕ → Path → Option Head → WorldTrain → Option WorldTrain → Type 0
+Took len from number mark path head x (Some y) = (heeded_by len x head number mark path ≡ true) × (y ≡ took_by len from number mark path head x)
+Took len from number mark path head x None = heeded_by len x head number mark path ≡ false

@@ -1,4 +1,4 @@
-//! The world: its trains, what each of their steps gives, and which authorities they heed.
+//! The world: its clock, its trains and how they move, what each of its steps gives, and which authorities it heeds.
 #![tactic(auto)]
 
 mod trains;

@@ -1,17 +1,20 @@
 //! Trains: found and replaced in their list, and changed by their own steps.
-ghost use Rattle.std.specs.Prelude.{◌≡◌, ◌≤◌, ◌<◌, length, Some, IfSome, vec_capacity};
-ghost use Rattle.std.specs.List.{position};
-ghost use Rattle.track_points.specs.Points.{step_eq};
-ghost use Rattle.definitions.specs.Track.{seg_len, zone_of};
-ghost use Rattle.definitions.specs.Premises.{same_portal};
+ghost use Rattle.std.specs.Prelude.{ℕ, ◌≡◌, ◌≤◌, ◌<◌, ◌&&◌, length, true, Some, None, IfSome, vec_capacity, is_some, nat_eq, nat_le, take, slice_get};
+ghost use Rattle.std.specs.List.{position, list_all};
+ghost use Rattle.track_points.specs.Points.{step_eq, end_place};
+ghost use Rattle.definitions.specs.Track.{seg_len};
+ghost use Rattle.definitions.specs.Rules.{is_line};
+ghost use Rattle.definitions.specs.Premises.{same_portal, on_line};
 ghost use Rattle.definitions.specs.Story.{or_else};
-ghost use Rattle.plain_state.specs.World.{find_train, change_train, kept_limit, asked_at_portal, come_on, authority_if_first, took_auth, alone_on, covers_portal, first_heeded};
-ghost use Rattle.world_sim.specs.World.{put, is_train, LimitIs};
+ghost use Rattle.plain_state.specs.World.{find_train, change_train, kept_limit, asked_at_portal, head_at_entry, come_on, moved_train, authority_if_first, auth_fits, alone_on, covers_portal, is_step_at, lies_on, room_on, took_by};
+ghost use Rattle.plain_state.specs.Admits.{reports_head, can_move_found, may_move_found};
+ghost use Rattle.world_sim.specs.World.{put, is_train, moved_to, Reaches, HeadIs, EndIs, RoomIs, Took};
 
-use line_map::Line;
-use plain_state::{EntryAuthority, WorldTrain};
-use track_points::{Dir, DirSeg, Path, SegId, TrainId};
+use line_map::{After, Line};
+use plain_state::{EntryAuthority, Head, WorldTrain};
+use track_points::{Dir, DirSeg, Path, TrainId};
 use way_path::Way;
+use way_path::on_steps::{length_of, total};
 
 /// The first train of this id.
 #[tactic(auto, unfolding(plain_state::specs::World::find_train))]
@@ -75,35 +78,11 @@ pub fn is_same_portal(step: DirSeg, first: Option<DirSeg>) -> bool
     }
 }
 
-/// The zone of a segment; 0 where it is not declared.
-#[tactic(auto, using(crate::proofs::Listed::no_zone))]
-pub fn zone_of(line: &Line, s: SegId) -> u8
-    ensures { result ≡ zone_of line.now s.0 }
-{
-    if line.has_segment(s) {
-        line.zone_of(s).0
-    } else {
-        0
-    }
-}
-
-/// The length of a segment in mm; 0 where it is not declared.
-#[tactic(auto, using(way_path::proofs::OnSteps::undeclared))]
-fn length_of(line: &Line, s: SegId) -> u32
-    ensures { result ≡ seg_len line.now s.0 }
-{
-    if line.has_segment(s) {
-        line.seg_len(s)
-    } else {
-        0
-    }
-}
-
-/// Where an authority ends, in mm from the start of the journey; none where its path is no path on the line, or where its
+/// Where an authority ends, in mm from the start of its path; none where its path is no path on the line, or where its
 /// mark and its steps are more than a mark can count.
 #[tactic(auto, using(crate::proofs::Paths::unfit))]
-pub fn limit_of(line: &Line, mark: u32, path: &Path) -> Option<u32>
-    ensures { LimitIs line.now mark path.now result }
+pub fn end_of(line: &Line, mark: u32, path: &Path) -> Option<u32>
+    ensures { EndIs line.now mark path.now result }
 {
     if u64::from(mark) + path.steps.as_slice().len() as u64 > u64::from(u32::MAX) {
         return None;
@@ -133,16 +112,6 @@ fn covers_portal(line: &Line, entry: Option<DirSeg>, train_length: u32, path: &P
     };
     let len = length_of(line, step.seg);
     is_alone(path.steps.as_slice(), step) && path.from == 0 && path.to == len && train_length <= len
-}
-
-/// Whether a train heeds an authority of this number: one that could be its entry authority has to fit its request.
-pub fn is_heeded(line: &Line, train: WorldTrain, number: u32, path: &Path) -> bool
-    ensures { result ≡ first_heeded (seg_len line.now) (Some train) number path.now }
-{
-    train.entered
-        || train.authority.is_some()
-        || number != 1
-        || covers_portal(line, train.entry, train.train_length, path)
 }
 
 fn first_step(kept: Option<DirSeg>, step: DirSeg) -> Option<DirSeg>
@@ -192,29 +161,205 @@ pub fn asked(train: WorldTrain, step: DirSeg) -> WorldTrain
     changed
 }
 
+fn first_head(entry: Option<DirSeg>, train_length: u32) -> Option<Head>
+    ensures { result ≡ head_at_entry entry train_length }
+{
+    match entry {
+        Some(step) => Some(Head {
+            step,
+            mark: 0,
+            offset: train_length,
+        }),
+        None => None,
+    }
+}
+
 /// The train once it has come on.
 pub fn come_on(train: WorldTrain) -> WorldTrain
     ensures { result ≡ come_on train }
 {
     let mut changed = train;
-    changed.entered = true;
-    changed.limit = kept_limit(train.authority);
+    changed.head = first_head(train.entry, train.train_length);
+    changed.room = kept_limit(train.authority).saturating_sub(train.train_length);
     changed.last = 1;
     changed
 }
 
-/// The train once it has taken an authority of this number, with this limit.
-pub fn took_auth(train: WorldTrain, from: u8, limit: u32, number: u32) -> WorldTrain
-    ensures { result ≡ took_auth from limit number train }
+/// The head once it is at a place of the track from a step on; the mark is that of the step.
+fn go_on(line: &Line, step: DirSeg, mark: u32, place: u64) -> Head
+    requires valid { is_line line.now ≡ true }
+    requires declared { on_line line.now step ≡ true }
+    requires track { Reaches line.now step mark place }
+    ensures { result ≡ moved_to line.now step mark place }
+{
+    let len = u64::from(line.seg_len(step.seg));
+    if place <= len {
+        return Head {
+            step,
+            mark,
+            offset: place as u32,
+        };
+    }
+    match line.after(step) {
+        After::Plain(next) => go_on(line, next, mark + 1, place - len),
+        After::Portal => unreachable!(),
+        After::Buffer => unreachable!(),
+    }
+}
+
+/// The train once its head has moved on so many mm.
+#[tactic(auto, using(crate::proofs::OnTrack::reach_less))]
+pub fn moved(line: &Line, train: WorldTrain, mm: u32) -> WorldTrain
+    requires valid { is_line line.now ≡ true }
+    requires head { HeadIs line.now train.room train.head }
+    requires room { mm ≤ train.room }
+    ensures { result ≡ moved_train line.now mm train }
 {
     let mut changed = train;
-    if train.entered {
-        if train.last < number {
-            changed.limit = limit;
-        }
-        changed.last = train.last.max(number);
-    } else {
-        changed.authority = first_authority(train.authority, from, limit, number);
+    if let Some(head) = train.head {
+        let place = u64::from(head.offset) + u64::from(mm);
+        changed.head = Some(go_on(line, head.step, head.mark, place));
     }
+    changed.room = train.room - mm;
     changed
+}
+
+/// How far the end of an authority lies ahead of a head; none where the head does not lie on it.
+fn room_on(line: &Line, mark: u32, path: &Path, end: u32, head: Head) -> Option<u32>
+    requires { end ≡ end_place (seg_len line.now) path.now }
+    ensures { RoomIs (seg_len line.now) mark path.now head result }
+{
+    if head.mark < mark {
+        return None;
+    }
+    let steps = path.steps.as_slice();
+    let index = (head.mark - mark) as usize;
+    if index >= steps.len() || !same_step(steps[index], head.step) {
+        return None;
+    }
+    let place = u64::from(total(line, &steps[..index])) + u64::from(head.offset);
+    if place <= u64::from(end) {
+        Some(end - place as u32)
+    } else {
+        None
+    }
+}
+
+/// A train on the line takes an authority; none where it does not heed it.
+fn took_on_line(
+    line: &Line,
+    train: WorldTrain,
+    head: Head,
+    number: u32,
+    mark: u32,
+    path: &Path,
+    end: u32,
+) -> Option<WorldTrain>
+    requires { end ≡ end_place (seg_len line.now) path.now }
+    ensures { (from : ℕ) → Took (seg_len line.now) from number mark path.now (Some head) train result }
+{
+    let mut changed = train;
+    if train.last < number {
+        changed.room = room_on(line, mark, path, end, head)?;
+    }
+    changed.last = train.last.max(number);
+    Some(changed)
+}
+
+/// A train that has not come on takes an authority; none where it could be its entry authority, and does not fit its
+/// request.
+fn took_before(
+    line: &Line,
+    train: WorldTrain,
+    from: u8,
+    number: u32,
+    mark: u32,
+    path: &Path,
+    end: u32,
+) -> Option<WorldTrain>
+    requires { end ≡ end_place (seg_len line.now) path.now }
+    ensures { Took (seg_len line.now) from number mark path.now None train result }
+{
+    let fits = mark == 0 && covers_portal(line, train.entry, train.train_length, path);
+    if train.authority.is_some() || number != 1 || fits {
+        let mut changed = train;
+        changed.authority = first_authority(train.authority, from, end, number);
+        Some(changed)
+    } else {
+        None
+    }
+}
+
+/// The train once it has taken an authority that ends at this place of its path; none where it does not heed it.
+pub fn took(
+    line: &Line,
+    train: WorldTrain,
+    from: u8,
+    number: u32,
+    mark: u32,
+    path: &Path,
+    end: u32,
+) -> Option<WorldTrain>
+    requires { end ≡ end_place (seg_len line.now) path.now }
+    ensures { Took (seg_len line.now) from number mark path.now train.head train result }
+{
+    match train.head {
+        None => took_before(line, train, from, number, mark, path, end),
+        Some(head) => took_on_line(line, train, head, number, mark, path, end),
+    }
+}
+
+/// Whether a train that is at this head, with a report off by at most this error, can report a step and an offset.
+pub fn reports(error: u32, head: Option<Head>, step: DirSeg, offset: i32) -> bool
+    ensures { result ≡ reports_head error step offset head }
+{
+    let Some(head) = head else {
+        return false;
+    };
+    let at = i64::from(head.offset);
+    let told = i64::from(offset);
+    same_step(step, head.step) && at - i64::from(error) <= told && told <= at + i64::from(error)
+}
+
+/// Whether a train can move so many mm in so many ms.
+fn can_move_one(trains: &[WorldTrain], ms: u32, train: TrainId, mm: u32) -> bool
+    ensures { result ≡ can_move_found ms trains.now (train, mm) }
+{
+    let speed = match find(trains, train) {
+        Some(found) => found.speed,
+        None => 0,
+    };
+    u64::from(mm) <= u64::from(speed) * u64::from(ms) / 1000
+}
+
+/// Whether each train can move so far in so many ms.
+pub fn can_move(trains: &[WorldTrain], ms: u32, moves: &[(TrainId, u32)]) -> bool
+    ensures { result ≡ list_all (can_move_found ms trains.now) moves.now }
+{
+    match moves {
+        [] => true,
+        [(train, mm), rest @ ..] => {
+            can_move_one(trains, ms, *train, *mm) && can_move(trains, ms, rest)
+        }
+    }
+}
+
+/// Whether a train is on the line, with room to move so many mm.
+fn may_move_one(trains: &[WorldTrain], train: TrainId, mm: u32) -> bool
+    ensures { result ≡ may_move_found trains.now (train, mm) }
+{
+    match find(trains, train) {
+        Some(found) => found.head.is_some() && mm <= found.room,
+        None => false,
+    }
+}
+
+/// Whether each train is on the line, with room to move so far.
+pub fn may_move(trains: &[WorldTrain], moves: &[(TrainId, u32)]) -> bool
+    ensures { result ≡ list_all (may_move_found trains.now) moves.now }
+{
+    match moves {
+        [] => true,
+        [(train, mm), rest @ ..] => may_move_one(trains, *train, *mm) && may_move(trains, rest),
+    }
 }

@@ -1,5 +1,5 @@
 -- A train by its index, and what holds of all trains.
-use Rattle.std.proofs.Common.{◌≡◌, ℕ, suc, zero, ◌+◌, ◌<◌, ◌≤◌, Bool, true, false, List, [], ◌∷◌, ◌++◌, length, map, take, get_or, Result, Ok, Err, Some, None, is_some, refl, sym, ap, ◌∙◌, arith, nat_eq, nat_lt, nat_le}
+use Rattle.std.proofs.Common.{◌≡◌, ℕ, suc, zero, subst, ◌+◌, ◌<◌, ◌≤◌, Bool, true, false, List, [], ◌∷◌, length, map, take, get_or, Result, Ok, Err, Some, None, is_some, refl, sym, ap, ◌∙◌, arith, nat_eq, nat_lt, nat_le}
 use Rattle.std.proofs.Math.ListN.{set}
 use Rattle.std.specs.List.{list_all, position, position_or_len}
 use Rattle.std.proofs.lemmas.Bool.Decides.{nat_tests}
@@ -9,8 +9,8 @@ use Rattle.std.proofs.lemmas.List.Sums.{fails_before_first}
 use Rattle.track_points.specs.declared.ids.DirSeg.{DirSeg}
 use Rattle.track_points.specs.Points.{Lengths, total, place_of_last, end_place, visits, no_segment_twice}
 use Rattle.track_points.proofs.Some.{by_test}
-use Rattle.definitions.specs.Track.{Line, seg_len, joined}
-use Rattle.definitions.specs.Limit.{Reach, last_step}
+use Rattle.definitions.specs.Track.{Line, seg_len, joined, last_step}
+use Rattle.definitions.specs.Limit.{Reach}
 use Rattle.definitions.specs.Steps.{entry_path}
 use Rattle.definitions.specs.Ways.{PlainWay, path_in_range}
 use Rattle.way_path.specs.declared.way.WayFault.{WayFault}
@@ -93,37 +93,41 @@ unknown t xs h = rw (absent t xs h) refl
 
 -- what holds of all trains
 
-pub fit_one : (line : Line) (z : ℕ) (xs : List Controlled) (i : ℕ) (d : Controlled) → i < length xs → AllFit line z xs → TrainFits line z (get_or xs i d)
+pub fit_one : (line : Line) (z clock : ℕ) (xs : List Controlled) (i : ℕ) (d : Controlled) → i < length xs → AllFit line z clock xs → TrainFits line z clock (get_or xs i d)
 unfolding AllFit
-fit_one line z [] i d h f = absurd (omega arith)
-fit_one line z (x ∷ xs) zero d h f = f.0
-fit_one line z (x ∷ xs) (suc i) d h f = fit_one line z xs i d (omega arith) f.1
+fit_one line z clock [] i d h f = absurd (omega arith)
+fit_one line z clock (x ∷ xs) zero d h f = f.0
+fit_one line z clock (x ∷ xs) (suc i) d h f = fit_one line z clock xs i d (omega arith) f.1
 
-pub fit_more : (line : Line) (z : ℕ) (xs : List Controlled) (x : Controlled) → AllFit line z xs → TrainFits line z x → AllFit line z (xs ++ x ∷ [])
+pub fit_set : (line : Line) (z clock : ℕ) (xs : List Controlled) (i : ℕ) (x : Controlled) → AllFit line z clock xs → TrainFits line z clock x → AllFit line z clock (set xs i x)
 unfolding AllFit
-fit_more line z [] x f h = (h, tt)
-fit_more line z (y ∷ ys) x f h = (f.0, fit_more line z ys x f.1 h)
+fit_set line z clock [] i x f h = tt
+fit_set line z clock (y ∷ ys) zero x f h = (h, f.1)
+fit_set line z clock (y ∷ ys) (suc i) x f h = (f.0, fit_set line z clock ys i x f.1 h)
 
-pub fit_set : (line : Line) (z : ℕ) (xs : List Controlled) (i : ℕ) (x : Controlled) → AllFit line z xs → TrainFits line z x → AllFit line z (set xs i x)
+pub fit_none : (line : Line) (z clock : ℕ) (xs : List Controlled) → xs ≡ [] → AllFit line z clock xs
 unfolding AllFit
-fit_set line z [] i x f h = tt
-fit_set line z (y ∷ ys) zero x f h = (h, f.1)
-fit_set line z (y ∷ ys) (suc i) x f h = (f.0, fit_set line z ys i x f.1 h)
+fit_none line z clock xs e = rw e tt
 
-pub fit_none : (line : Line) (z : ℕ) (xs : List Controlled) → xs ≡ [] → AllFit line z xs
-unfolding AllFit
-fit_none line z xs e = rw e tt
-
-pub fit_counted : (line : Line) (z number : ℕ) (x : Controlled) → TrainFits line z x → TrainFits line z (counted number x)
-fit_counted line z number x f = record {
+pub fit_counted : (line : Line) (z clock number : ℕ) (x : Controlled) → TrainFits line z clock x → TrainFits line z clock (counted number x)
+fit_counted line z clock number x f = record {
   way = f.way;
   on_line = f.on_line;
   ends = f.ends;
+  long = f.long;
   behind = f.behind;
   ordered = f.ordered;
   ahead = f.ahead;
+  at = f.at;
   hold = f.hold;
 }
+
+-- at its own time, and back
+pub fit_own : (line : Line) (z clock : ℕ) (x : Controlled) → TrainFits line z clock x → TrainFits line z x.fronts.at x
+fit_own line z clock x f = subst (λ (n : ℕ). TrainFits line z n x) (sym f.at) f
+
+pub fit_again : (line : Line) (z clock : ℕ) (x y : Controlled) → TrainFits line z clock x → TrainFits line z x.fronts.at y → TrainFits line z clock y
+fit_again line z clock x y f g = subst (λ (n : ℕ). TrainFits line z n y) f.at g
 
 -- a test that every train passes
 pub passes : (test : ZoneTrain → Bool) (xs : List Controlled) (i : ℕ) (d : Controlled) → i < length xs → list_all test (map plain_train xs) ≡ true → test (plain_train (get_or xs i d)) ≡ true
@@ -132,12 +136,12 @@ passes test (x ∷ xs) zero d l h = grind arith
 passes test (x ∷ xs) (suc i) d l h = passes test xs i d (omega arith) (grind arith)
 
 -- a train that fits, found
-pub fit_found : (line : Line) (z : ℕ) (xs : List Controlled) (i : ℕ) (x : Controlled) → i < length xs → x ≡ get_or xs i x → AllFit line z xs → TrainFits line z x
-fit_found line z xs i x l e f = rw e (fit_one line z xs i x l f)
+pub fit_found : (line : Line) (z clock : ℕ) (xs : List Controlled) (i : ℕ) (x : Controlled) → i < length xs → x ≡ get_or xs i x → AllFit line z clock xs → TrainFits line z clock x
+fit_found line z clock xs i x l e f = rw e (fit_one line z clock xs i x l f)
 
 -- a train that fits has a path that fits
-pub fit_path : (line : Line) (z : ℕ) (x : Controlled) → TrainFits line z x → path_fits (seg_len line) x.way.path ≡ true
-fit_path line z x f =
+pub fit_path : (line : Line) (z clock : ℕ) (x : Controlled) → TrainFits line z clock x → path_fits (seg_len line) x.way.path ≡ true
+fit_path line z clock x f =
     let s = f.way.some in let w = f.on_line.within in let e = f.ends in
     let a : nat_lt 0 (length x.way.path.steps.items) ≡ true = grind (arith, nat_tests) in
     let b : nat_le (end_place (seg_len line) x.way.path) (total (seg_len line) x.way.path.steps.items) ≡ true = let le : end_place (seg_len line) x.way.path ≤ total (seg_len line) x.way.path.steps.items = omega arith in grind (arith, nat_tests) in

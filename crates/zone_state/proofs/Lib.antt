@@ -5,3 +5,9 @@ pub mod OnSteps
 pub mod Reaches
 pub mod Found
 pub mod Shown
+pub mod Timed
+pub mod Reported
+pub mod Behind
+pub mod Alarms
+pub mod Placed
+pub mod Advanced

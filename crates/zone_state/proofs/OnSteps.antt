@@ -1,64 +1,34 @@
 -- Steps, the first of them, and ways that are lengthened by more of them.
-use Rattle.std.proofs.Common.{◌≡◌, ℕ, suc, zero, ◌+◌, ◌-◌, ◌<◌, ◌≤◌, ◌^◌, true, false, ◌&&◌, List, [], ◌∷◌, ◌++◌, length, take, Result, Ok, Err, append_assoc, refl, ap, ◌∙◌, arith, nat_le}
+use Rattle.std.proofs.Common.{◌≡◌, ℕ, suc, zero, ◌+◌, ◌<◌, ◌≤◌, ◌^◌, true, false, ◌&&◌, List, [], ◌∷◌, ◌++◌, length, take, drop, Result, Ok, Err, append_assoc, refl, sym, ap, ◌∙◌, arith}
 use Rattle.std.specs.Prelude.{⊤}
 use Rattle.std.proofs.Math.Seq.{take-append_seam}
-use Rattle.std.proofs.lemmas.List.{append-nil, take_all}
-use Rattle.std.proofs.lemmas.Bool.Decides.{nat_tests}
+use Rattle.std.proofs.lemmas.List.{append-nil, take_all, take-append-drop}
 use Rattle.track_points.specs.declared.ids.DirSeg.{DirSeg}
 use Rattle.track_points.specs.Points.{Lengths, total, end_place, steps_to, offset_to, visits, no_segment_twice}
-use Rattle.track_points.proofs.Some.{by_test}
 use Rattle.definitions.specs.declared.item.Item.{Item}
-use Rattle.definitions.specs.Track.{follows, joined}
-use Rattle.definitions.specs.Limit.{last_step, asked_way}
+use Rattle.definitions.specs.Track.{follows, joined, last_step}
+use Rattle.definitions.specs.Limit.{asked_way}
 use Rattle.definitions.specs.Ways.{PlainWay}
 use Rattle.way_path.specs.declared.way.WayFault.{WayFault}
 use Rattle.way_path.specs.declared.way.WayFault.TheVariants.{NotJoined, Repeated, OutOfRange, Throats, Full}
 use Rattle.way_path.specs.Ways.{Extends, ended_at}
 use Rattle.way_laws.proofs.Joined.{once_front}
+use Rattle.way_laws.proofs.Cuts.{cut_more, offset_more}
 use Rattle.way_path.proofs.OnSteps.{once_append}
 use Rattle.zone_state.specs.Zone.{with_steps, longer_way}
 
--- the first steps are no longer than all
-pub total_take : (len : Lengths) (asked : List DirSeg) (n : ℕ) → total len (take n asked) ≤ total len asked
-unfolding total
-total_take len [] zero = omega arith
-total_take len [] (suc n) = omega arith
-total_take len (st ∷ asked) zero = omega arith
-total_take len (st ∷ asked) (suc n) = let r = total_take len asked n in omega arith
-
--- some steps are among the first of them and more
-pub total_within : (len : Lengths) (steps more : List DirSeg) (n : ℕ) → length steps ≤ n → total len steps ≤ total len (take n (steps ++ more))
-unfolding total
-total_within len [] more n h = omega arith
-total_within len (st ∷ steps) more zero h = absurd (omega arith)
-total_within len (st ∷ steps) more (suc n) h = let r = total_within len steps more n (omega arith) in omega arith
-
 -- up to a place of the first steps, all steps come to the same
 pub steps_first : (len : Lengths) (asked : List DirSeg) (n p : ℕ) → p ≤ total len (take n asked) → 0 < n → steps_to len (take n asked) p ≡ steps_to len asked p
-unfolding steps_to total
 steps_first len asked zero p h k = absurd (omega arith)
 steps_first len [] (suc n) p h k = refl
-steps_first len (st ∷ asked) (suc zero) p h k =
-    by_test (nat_le p (len st.seg.0))
-    (λ y. rw y refl)
-    (λ x. absurd (grind (arith, nat_tests)))
-steps_first len (st ∷ asked) (suc (suc n)) p h k =
-    by_test (nat_le p (len st.seg.0))
-    (λ y. rw y refl)
-    (λ x. rw x (ap (λ xs. st ∷ xs) (steps_first len asked (suc n) (p - len st.seg.0) (omega arith) (omega arith))))
+steps_first len (st ∷ asked) (suc n) p h k =
+    sym (cut_more len (take (suc n) (st ∷ asked)) (drop (suc n) (st ∷ asked)) p (omega arith) h) ∙ ap (λ xs. steps_to len xs p) (take-append-drop (suc n) (st ∷ asked))
 
 pub offset_first : (len : Lengths) (asked : List DirSeg) (n p : ℕ) → p ≤ total len (take n asked) → 0 < n → offset_to len (take n asked) p ≡ offset_to len asked p
-unfolding offset_to total
 offset_first len asked zero p h k = absurd (omega arith)
 offset_first len [] (suc n) p h k = refl
-offset_first len (st ∷ asked) (suc zero) p h k =
-    by_test (nat_le p (len st.seg.0))
-    (λ y. rw y refl)
-    (λ x. absurd (grind (arith, nat_tests)))
-offset_first len (st ∷ asked) (suc (suc n)) p h k =
-    by_test (nat_le p (len st.seg.0))
-    (λ y. rw y refl)
-    (λ x. rw x (offset_first len asked (suc n) (p - len st.seg.0) (omega arith) (omega arith)))
+offset_first len (st ∷ asked) (suc n) p h k =
+    sym (offset_more len (take (suc n) (st ∷ asked)) (drop (suc n) (st ∷ asked)) p (omega arith) h) ∙ ap (λ xs. offset_to len xs p) (take-append-drop (suc n) (st ∷ asked))
 
 -- a way with more steps behind its own
 

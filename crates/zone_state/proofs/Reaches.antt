@@ -6,8 +6,8 @@ use Rattle.track_points.specs.declared.ids.DirSeg.{DirSeg}
 use Rattle.track_points.specs.declared.path.Path.{Path}
 use Rattle.track_points.specs.Points.{Lengths, total, place_of_last, end_place}
 use Rattle.track_points.proofs.Places.{cell_none}
-use Rattle.definitions.specs.Track.{Line, seg_len}
-use Rattle.definitions.specs.Limit.{Ask, reach_on, distance_on, obstructed, least_standing, last_step, asked_way, further}
+use Rattle.definitions.specs.Track.{Line, seg_len, last_step}
+use Rattle.definitions.specs.Limit.{Ask, reach_on, distance_on, obstructed, least_standing, asked_way, further}
 use Rattle.plain_state.specs.ZoneTrain.{ZoneTrain}
 use Rattle.plain_state.specs.Zone.{barring_plain}
 use Rattle.zone_state.specs.declared.reach.Stop.{Stop}
@@ -16,8 +16,8 @@ use Rattle.zone_state.specs.Held.{first_held}
 use Rattle.zone_state.proofs.Nearest.{held_at, first_held_is}
 use Rattle.way_laws.proofs.First.{first_is, first_only}
 use Rattle.zone_state.proofs.First.{stop_is, least_is, stop_near, stop_from}
-use Rattle.way_path.proofs.OnSteps.{last_within}
-use Rattle.zone_state.proofs.OnSteps.{total_take, total_within}
+use Rattle.way_laws.proofs.Cut.{last_place, total_front}
+use Rattle.way_laws.proofs.Route.{total_take}
 
 pub stop_after : (len : Lengths) (asked : List DirSeg) (limit to h : ℕ) → limit ≤ (stop_on len asked limit to h).place
 stop_after len asked limit to h =
@@ -27,9 +27,9 @@ pub stop_within : (len : Lengths) (asked : List DirSeg) (limit to h : ℕ) → 0
     → (stop_on len asked limit to h).place ≤ total len (take 24 asked)
 stop_within len asked limit to h s l =
     stop_near (nat_lt (len (last_step asked).seg.0) to) (nat_lt 24 (length asked)) limit (max limit (place_of_last len asked to)) (total len asked) (total len (take 24 asked)) h
-    (omega arith) l (total_take len asked 24)
+    (omega arith) l (total_take len 24 asked)
     (λ b. let le : length asked ≤ 24 = grind (arith, nat_tests) in let e : take 24 asked ≡ asked = grind (arith, common_steps) in rw e refl)
-    (λ a. let w = last_within len asked to s (grind (arith, nat_tests)) in omega arith)
+    (λ a. let w = last_place len asked to s (grind (arith, nat_tests)) in omega arith)
 
 module _ (line : Line) (z : ℕ) (ways : List ZoneTrain) (t : ℕ) (asked : List DirSeg) (limit to : ℕ) where
   abbrev pub held_place : ℕ
@@ -68,5 +68,5 @@ pub end_within : (len : Lengths) (path : Path) (asked : List DirSeg) → length 
     → end_place len path ≤ total len (take 24 (asked_way path.steps.items asked))
 end_within len path asked few fits =
     let a : end_place len path ≤ total len path.steps.items = grind (arith, nat_tests) in
-    let b = total_within len path.steps.items (further path.steps.items asked) 24 few in
+    let b = total_front len path.steps.items (further path.steps.items asked) 24 few in
     omega arith

@@ -18,9 +18,9 @@ pub held_none : (line : Line) (z t : ℕ) (xs : List Controlled) (p : Points) �
     → (point : Point) → set_has p point ≡ hold_has line z (find_way t (map plain_train xs)) point
 held_none line z t xs p h e point = rw (absent t xs h) (none_in p point e)
 
-pub held_some : (line : Line) (z t : ℕ) (xs : List Controlled) (i : ℕ) (x : Controlled) (p : Points) → position (is_train t) xs ≡ Some i → i < length xs → x ≡ get_or xs i x
-    → p ≡ x.hold → AllFit line z xs → (point : Point) → set_has p point ≡ hold_has line z (find_way t (map plain_train xs)) point
-held_some line z t xs i x p h l e k f point = rw (found_is t xs i x h e, k) ((fit_found line z xs i x l e f).hold point)
+pub held_some : (line : Line) (z clock t : ℕ) (xs : List Controlled) (i : ℕ) (x : Controlled) (p : Points) → position (is_train t) xs ≡ Some i → i < length xs → x ≡ get_or xs i x
+    → p ≡ x.hold → AllFit line z clock xs → (point : Point) → set_has p point ≡ hold_has line z (find_way t (map plain_train xs)) point
+held_some line z clock t xs i x p h l e k f point = rw (found_is t xs i x h e, k) ((fit_found line z clock xs i x l e f).hold point)
 
 pub envelope_none : (line : Line) (t : ℕ) (xs : List Controlled) → position (is_train t) xs ≡ None → IsEnvelope (seg_len line) (find_way t (map plain_train xs)) None
 envelope_none line t xs h = rw (absent t xs h) tt

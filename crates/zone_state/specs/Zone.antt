@@ -1,22 +1,24 @@
 -- The first obstacle in closed form, and what a zone keeps.
-use Rattle.std.specs.Prelude.{◌≡◌, ℕ, List, [], ◌∷◌, ◌+◌, ◌-◌, ◌<◌, ◌≤◌, length, map, take, if◌then◌else◌, Bool, true, ◌&&◌, nat_eq, nat_lt, nat_le, max, Option, Some, None, ⊤}
+use Rattle.std.specs.Prelude.{◌≡◌, ℕ, suc, ℤ, List, [], ◌∷◌, ◌+◌, ◌-◌, ◌<◌, ◌≤◌, length, map, filter, take, if◌then◌else◌, Bool, true, ◌&&◌, not, nat_eq, nat_lt, nat_le, min, max, Option, Some, None, ⊤}
 use Rattle.track_points.specs.declared.ids.DirSeg.{DirSeg}
 use Rattle.track_points.specs.declared.ids.TrainId.{TrainId}
 use Rattle.track_points.specs.declared.path.Path.{Path}
 use Rattle.track_points.specs.Points.{Lengths, Point, total, place_of_last, end_place}
 use Rattle.track_points.specs.Sets.{Points, set_has}
-use Rattle.definitions.specs.Track.{Line, seg_len, has_segment}
+use Rattle.definitions.specs.Track.{Line, seg_len, has_segment, last_step}
 use Rattle.definitions.specs.declared.message.Msg.{Msg}
 use Rattle.definitions.specs.declared.message.Msg.TheVariants as msg
 use Rattle.definitions.specs.declared.outcome.Obstacle.{Obstacle}
 use Rattle.definitions.specs.declared.outcome.Obstacle.TheVariants.{AskEnds, TrackEnds, Held, PathFull}
+use Rattle.definitions.specs.declared.outcome.Outcome.{Outcome}
 use Rattle.definitions.specs.declared.outcome.Outcome.TheVariants as out
 use Rattle.definitions.specs.Limit as limits
-use Rattle.definitions.specs.Steps.{Effect, entry_path, path_to}
+use Rattle.definitions.specs.Steps.{Effect, nothing, entry_path, path_to}
 use Rattle.definitions.specs.Ways.{PlainWay}
 use Rattle.way_path.specs.Ways.{IsWay, OnLine, EndsWithPath}
 use Rattle.plain_state.specs.ZoneTrain.{ZoneTrain}
-use Rattle.plain_state.specs.Zone.{PlainZone, lengthened, hold_has, envelope_has}
+use Rattle.plain_state.specs.Zone.{PlainZone, find_way, lengthened, hold_has, envelope_has, has_mark, least_kept, greatest_kept, narrowed, reported_by, place_found, alarm_of}
+use Rattle.envelope.specs.Fronts.{farthest_move}
 use Rattle.zone_state.specs.declared.reach.Stop.{Stop}
 use Rattle.zone_state.specs.declared.reach.Reach.{Reach}
 use Rattle.zone_state.specs.declared.trains.Controlled.{Controlled}
@@ -32,8 +34,11 @@ abbrev pub plain_train : Controlled → ZoneTrain
 plain_train x = record {
   id = x.id;
   train_length = x.train_length;
+  error = x.error;
+  speed = x.speed;
   way = x.way;
   fronts = x.fronts;
+  report = x.report;
   last = x.last;
   answered = x.answered;
 }
@@ -41,23 +46,61 @@ plain_train x = record {
 abbrev pub plain_zone : ZoneKept → PlainZone
 plain_zone z = record { id = z.id; clock = z.clock; trains = map plain_train z.trains }
 
--- what holds of a train that the zone controls, on its line
-pub record TrainFits (line : Line) (z : ℕ) (x : Controlled) : Type 0 where
+-- what holds of a train that the zone controls, on its line, at the zone's Now
+pub record TrainFits (line : Line) (z clock : ℕ) (x : Controlled) : Type 0 where
   pub way : IsWay x.way
   pub on_line : OnLine line x.way
   pub ends : EndsWithPath (seg_len line) x.way
+  pub long : 1 ≤ x.train_length
+  pub behind : x.way.path.from + x.train_length ≡ x.fronts.lo
+  pub ordered : x.fronts.lo ≤ x.fronts.hi
+  pub ahead : x.fronts.hi ≤ x.way.end
+  pub at : x.fronts.at ≡ clock
+  pub hold : (point : Point) → set_has x.hold point ≡ hold_has line z (Some (plain_train x)) point
+
+unfoldable pub AllFit : Line → ℕ → ℕ → List Controlled → Type 0
+AllFit line z clock [] = ⊤
+AllFit line z clock (x ∷ xs) = TrainFits line z clock x × AllFit line z clock xs
+
+-- every train of a zone fits at its Now
+abbrev pub IsZoneOn : Line → ZoneKept → Type 0
+IsZoneOn line z = AllFit line z.id z.clock z.trains
+
+-- all trains fit at a Now that a time is not behind
+pub record FitFrom (line : Line) (z time : ℕ) (xs : List Controlled) : Type 0 where
+  pub clock : ℕ
+  pub later : time ≤ clock
+  pub fit : AllFit line z clock xs
+
+-- what holds of a train while a report has narrowed its fronts and its way still begins where it did
+pub record TrainStands (line : Line) (x : Controlled) : Type 0 where
+  pub way : IsWay x.way
+  pub on_line : OnLine line x.way
+  pub ends : EndsWithPath (seg_len line) x.way
+  pub long : 1 ≤ x.train_length
   pub behind : x.way.path.from + x.train_length ≤ x.fronts.lo
   pub ordered : x.fronts.lo ≤ x.fronts.hi
   pub ahead : x.fronts.hi ≤ x.way.end
-  pub hold : (point : Point) → set_has x.hold point ≡ hold_has line z (Some (plain_train x)) point
 
-unfoldable pub AllFit : Line → ℕ → List Controlled → Type 0
-AllFit line z [] = ⊤
-AllFit line z (x ∷ xs) = TrainFits line z x × AllFit line z xs
+-- what the growth of fronts wants of a train, whose fronts are those at a time
+pub record CanGrow (before : ℕ) (x : Controlled) : Type 0 where
+  pub ordered : x.fronts.lo ≤ x.fronts.hi
+  pub ahead : x.fronts.hi ≤ x.way.end
+  pub at : x.fronts.at ≡ before
 
--- every train of a zone fits
-abbrev pub IsZoneOn : Line → ZoneKept → Type 0
-IsZoneOn line z = AllFit line z.id z.trains
+unfoldable pub AllCanGrow : ℕ → List Controlled → Type 0
+AllCanGrow before [] = ⊤
+AllCanGrow before (x ∷ xs) = CanGrow before x × AllCanGrow before xs
+
+-- no train is there twice
+unfoldable pub Distinct : List ZoneTrain → Type 0
+Distinct [] = ⊤
+Distinct (x ∷ xs) = (find_way x.id.0 xs ≡ None) × Distinct xs
+
+-- a message that the world can send: a train that asks for entry is not of length 0
+abbrev pub InRange : Msg → Type 0
+InRange (msg.EntryAsk t time long error speed equipped step) = 1 ≤ long
+InRange _ = ⊤
 
 -- the set of an envelope, of a train that the zone controls
 abbrev pub IsEnvelope : Lengths → Option ZoneTrain → Option Points → Type 0
@@ -72,6 +115,42 @@ is_train t x = nat_eq x.id.0 t
 abbrev pub counted : ℕ → Controlled → Controlled
 counted number x = record x { answered = max x.answered number }
 
+-- a train whose fronts have grown
+abbrev pub grown_controlled : ℕ → Controlled → Controlled
+grown_controlled clock x = record x {
+  fronts = record {
+    lo = x.fronts.lo;
+    hi = min (x.fronts.hi + farthest_move x.speed (clock - x.fronts.at)) x.way.end;
+    at = clock;
+  };
+}
+
+-- a train whose fronts a report has narrowed, which says a place
+abbrev pub narrowed_controlled : ℤ → ℕ → Bool → Controlled → Controlled
+narrowed_controlled place time integrity x = record x {
+  fronts = narrowed x.fronts (least_kept x.fronts.lo place x.error integrity) (greatest_kept x.fronts.hi place x.error (farthest_move x.speed (x.fronts.at - time)));
+  report = max x.report time;
+}
+
+-- a train that falls silent as Now rises, on a line where one is silent more than these ms behind its last report
+abbrev pub falls_silent : ℕ → ℕ → ℕ → ZoneTrain → Bool
+falls_silent ms before clock x = not (nat_lt (x.report + ms) before) && nat_lt (x.report + ms) clock
+
+abbrev pub alarms_of : ℕ → ℕ → ℕ → ℕ → List ZoneTrain → List Outcome
+alarms_of ms z before clock ways = map (alarm_of z) (filter (falls_silent ms before clock) ways)
+
+-- what a report of a train comes to, by its way
+abbrev pub report_given : Lengths → ℕ → ℕ → ℕ → ℤ → Bool → ZoneTrain → Effect
+report_given len z time mark offset integrity x = if has_mark x.way mark then place_found len z time mark offset integrity (Some x) else nothing
+
+abbrev pub way_reported : Lengths → ℕ → ℕ → ℤ → Bool → ZoneTrain → ZoneTrain
+way_reported len time mark offset integrity x = if has_mark x.way mark then reported_by len time mark offset integrity x else x
+
+-- the index at which a train goes in: before the first of a greater id
+unfoldable pub place_for : ℕ → List Controlled → ℕ
+place_for t [] = 0
+place_for t (x ∷ xs) = if nat_lt t x.id.0 then 0 else suc (place_for t xs)
+
 -- of two obstacles the nearer one, the first at a tie; one before the limit does not stand
 abbrev pub nearer : ℕ → Bool → Stop → Stop → Stop
 nearer limit stands other so_far = if stands && (nat_le limit other.place && nat_lt other.place so_far.place) then other else so_far
@@ -85,7 +164,7 @@ first_stop a b limit e t f h =
 -- the same of an asked way
 abbrev pub stop_on : Lengths → List DirSeg → ℕ → ℕ → ℕ → Stop
 stop_on len asked limit to h =
-    first_stop (nat_lt (len (limits.last_step asked).seg.0) to) (nat_lt 24 (length asked)) limit (max limit (place_of_last len asked to)) (total len asked) (total len (take 24 asked)) h
+    first_stop (nat_lt (len (last_step asked).seg.0) to) (nat_lt 24 (length asked)) limit (max limit (place_of_last len asked to)) (total len asked) (total len (take 24 asked)) h
 
 -- a reach as the definitions have it
 abbrev pub reach_value : Reach → limits.Reach
@@ -132,8 +211,8 @@ way_asked len asked reach x = if nat_eq reach.distance 0 then x else lengthened 
 -- the authority over a train's way, and its line
 abbrev pub way_granted : ℕ → TrainId → ZoneTrain → Obstacle → Effect
 way_granted z t x obstacle = record {
-  issued = (0, msg.Auth t x.last 0 x.way.path) ∷ [];
-  lines = out.Grant (record { 0 = z }) t x.last (limits.last_step x.way.path.steps.items) x.way.path.to obstacle ∷ [];
+  issued = (0, msg.Auth t x.last x.way.mark x.way.path) ∷ [];
+  lines = out.Grant (record { 0 = z }) t x.last (last_step x.way.path.steps.items) x.way.path.to obstacle ∷ [];
 }
 
 -- the way over the whole of a portal's segment

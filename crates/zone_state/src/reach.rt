@@ -2,7 +2,7 @@
 ghost use Rattle.std.specs.Prelude.{◌≡◌, ◌≤◌, ◌<◌, ◌+◌, length, map, take, Some, true, max};
 ghost use Rattle.track_points.specs.Points.{total, place_of_last};
 ghost use Rattle.definitions.specs.Track.{seg_len};
-ghost use Rattle.definitions.specs.Limit.{reach_from};
+ghost use Rattle.definitions.specs.Limit.{reach_from, barred};
 ghost use Rattle.plain_state.specs.Zone.{barring_plain};
 ghost use Rattle.zone_state.specs.Zone.{nearer, stop_on, stop_reach, reach_value, path_fits, plain_train, ReachFits};
 
@@ -108,34 +108,45 @@ fn reach_on(line: &Line, asked: &[DirSeg], limit: u64, to: u32, held_place: u64)
     }
 }
 
+/// How an obstacle bars an ask.
+pub fn barred(obstacle: Obstacle) -> Reach
+    ensures barred { reach_value result ≡ barred obstacle }
+    ensures none { result.distance ≡ 0 }
+{
+    Reach {
+        distance: 0,
+        obstacle,
+    }
+}
+
 /// How far an ask reaches beyond the end of a way. An ask of a train that is not ready, or that does not continue the
-/// way, is barred. A cell of the zone's own that lies in the way of another train is held.
-#[tactic(auto, using(crate::proofs::OnSteps::total_within))]
+/// way, is barred, and so is one of a train that is silent. A cell of the zone's own that lies in the way of another train is held.
+#[tactic(auto, using(way_laws::proofs::Cut::total_front))]
 pub fn reach_from(
     line: &Line,
     zone: u8,
     trains: &[Controlled],
     train: TrainId,
     ready: bool,
+    silent: bool,
     path: &Path,
     asked: &[DirSeg],
     to: u32,
 ) -> Reach
     requires few { length asked.now ≤ 24 }
     requires fits { path_fits (seg_len line.now) path.now ≡ true }
-    ensures reach { reach_value result ≡ reach_from line.now ready (Some path.now) asked.now to (barring_plain line.now zone (map plain_train trains.now) train.0) }
+    ensures reach { reach_value result ≡ reach_from line.now ready silent (Some path.now) asked.now to (barring_plain line.now zone (map plain_train trains.now) train.0) }
     ensures fits { ReachFits line.now path.now asked.now result.distance }
 {
     let steps = path.steps.as_slice();
     let way = asked_way(steps, asked);
-    if ready && continues(line, steps, asked, way.as_slice()) {
-        let limit = place_of_last(line, steps, path.to);
-        let held_place = first_held(line, zone, trains, train, way.as_slice(), limit);
-        reach_on(line, way.as_slice(), limit, to, held_place)
-    } else {
-        Reach {
-            distance: 0,
-            obstacle: Obstacle::NotJoined,
-        }
+    if !(ready && continues(line, steps, asked, way.as_slice())) {
+        return barred(Obstacle::NotJoined);
     }
+    if silent {
+        return barred(Obstacle::Silent);
+    }
+    let limit = place_of_last(line, steps, path.to);
+    let held_place = first_held(line, zone, trains, train, way.as_slice(), limit);
+    reach_on(line, way.as_slice(), limit, to, held_place)
 }

@@ -1,10 +1,10 @@
 //! Asked steps: what continues a way, places on steps, and ways with further steps.
 ghost use Rattle.std.specs.Prelude.{◌≡◌, ◌≤◌, ◌<◌, ◌+◌, ◌*◌, ◌++◌, ◌^◌, length, take, true};
 ghost use Rattle.track_points.specs.Points.{step_eq, place_of_last, visits, no_segment_twice};
-ghost use Rattle.definitions.specs.Track.{seg_len, joined};
+ghost use Rattle.definitions.specs.Track.{seg_len, joined, last_step};
 ghost use Rattle.way_path.specs.Ways.{OnLine};
 ghost use Rattle.zone_state.specs.Zone.{with_steps};
-ghost use Rattle.definitions.specs.Limit.{last_step, beyond, or_all, further, asked_way, continues};
+ghost use Rattle.definitions.specs.Limit.{beyond, or_all, further, asked_way, continues};
 
 use arrayvec::ArrayVec;
 use line_map::Line;

@@ -1,5 +1,6 @@
 //! A zone on a line of three segments one behind the other, the last of them another zone's.
-ghost use Rattle.zone_state.specs.Zone.{IsZoneOn};
+ghost use Rattle.std.specs.Prelude.{◌≡◌, true};
+ghost use Rattle.zone_state.specs.Zone.{IsZoneOn, InRange};
 
 use crate::zone::Zone;
 use arrayvec::ArrayVec;
@@ -41,39 +42,96 @@ fn up(seg: u16) -> DirSeg {
     }
 }
 
-/// A request for entry at segment 1.
-fn entry(train: u16, time: u64, length: u32) -> Msg {
+/// A request for entry at segment 1, of a train whose reports are off by at most 5 mm.
+fn entry_of(train: u16, time: u64, length: u32, speed: u16) -> Msg {
     Msg::EntryAsk {
         train: TrainId(train),
         time,
         length,
-        error: 0,
-        speed: 100,
+        error: 5,
+        speed,
         equipped: true,
         step: up(1),
     }
 }
 
-/// An ask of train 7.
-fn ask(time: u64, steps: &[DirSeg], to: u32) -> Msg {
+/// The same at a speed of 100 mm/s.
+fn entry(train: u16, time: u64, length: u32) -> Msg {
+    entry_of(train, time, length, 100)
+}
+
+fn ask_of(train: u16, time: u64, steps: &[DirSeg], to: u32) -> Msg {
     let mut asked = ArrayVec::new();
     let _ = asked.try_extend_from_slice(steps);
     Msg::Ask {
-        train: TrainId(7),
+        train: TrainId(train),
         time,
         steps: asked,
         to,
     }
 }
 
-/// Train 7 answers authority 1.
-fn answer(time: u64) -> Msg {
+/// An ask of train 7.
+fn ask(time: u64, steps: &[DirSeg], to: u32) -> Msg {
+    ask_of(7, time, steps, to)
+}
+
+fn answer_of(train: u16, time: u64, number: u32) -> Msg {
     Msg::Answer {
-        train: TrainId(7),
+        train: TrainId(train),
         time,
-        number: 1,
+        number,
         taken: true,
     }
+}
+
+/// Train 7 answers authority 1.
+fn answer(time: u64) -> Msg {
+    answer_of(7, time, 1)
+}
+
+fn report_of(train: u16, time: u64, mark: u32, offset: i32, integrity: bool) -> Msg {
+    Msg::Report {
+        train: TrainId(train),
+        time,
+        mark,
+        offset,
+        integrity,
+    }
+}
+
+/// Train 7 reports, and is whole.
+fn report(time: u64, mark: u32, offset: i32) -> Msg {
+    report_of(7, time, mark, offset, true)
+}
+
+/// The time, for train 7.
+fn time(time: u64) -> Msg {
+    Msg::Time {
+        time,
+        train: TrainId(7),
+    }
+}
+
+/// Train 7 has its rear on a step at an offset, and its front on another.
+fn place(rear: u16, rear_offset: u32, front: u16, front_offset: u32) -> Option<Outcome> {
+    Some(Outcome::Place(
+        ZoneId(1),
+        TrainId(7),
+        up(rear),
+        rear_offset,
+        up(front),
+        front_offset,
+    ))
+}
+
+fn enters(train: u16) -> Option<Outcome> {
+    Some(Outcome::Entry(ZoneId(1), TrainId(train), 1))
+}
+
+/// A grant of an authority that ends on segment 2.
+fn granted(train: u16, number: u32, to: u32, obstacle: Obstacle) -> Option<Outcome> {
+    Some(Outcome::Grant(ZoneId(1), TrainId(train), number, up(2), to, obstacle))
 }
 
 /// A message and its sender, and what it comes to: Now, and the outcome line.
@@ -102,12 +160,25 @@ fn told(outs: &Outs) -> Option<Outcome> {
     }
 }
 
+/// Whether the world can send a message.
+fn in_range(message: &Msg) -> bool
+    ensures { result ≡ true → InRange message.now }
+{
+    match message {
+        Msg::EntryAsk { length, .. } => *length >= 1,
+        _ => true,
+    }
+}
+
 /// The zone takes the messages one after the other.
 fn run(rt: &impl Abort, line: &Line, zone: &mut Zone, outs: &mut Outs, cases: &[Case])
     requires { IsZoneOn line.now zone.old }
     ensures { IsZoneOn line.now zone.new }
 {
     if let [case, rest @ ..] = cases {
+        if !in_range(&case.message) {
+            panic!(rt; "no train is of length 0");
+        }
         outs.clear();
         zone.step(line, &case.message, case.from, outs);
         assert_eq!(rt; zone.now(), case.clock);
@@ -116,10 +187,34 @@ fn run(rt: &impl Abort, line: &Line, zone: &mut Zone, outs: &mut Outs, cases: &[
     }
 }
 
-/// To whom an authority went, its number, and the end of its path; none where none went.
-fn sent(outs: &Outs) -> Option<(u8, u32, u32)> {
+/// A zone without trains takes the messages one after the other.
+fn check(rt: &impl Abort, alloc: Global, cases: &[Case]) {
+    let Ok(line) = line_of(alloc) else {
+        panic!(rt; "no line");
+    };
+    let Ok(mut outs) = Outs::new(alloc) else {
+        panic!(rt; "want of memory");
+    };
+    let Ok(mut zone) = Zone::start(alloc, &line, ZoneId(1)) else {
+        panic!(rt; "want of memory");
+    };
+    run(rt, &line, &mut zone, &mut outs, cases);
+}
+
+/// To whom an authority went, its number, its mark, and the end of its path; none where none went.
+fn sent(outs: &Outs) -> Option<(u8, u32, u32, u32)> {
     match outs.messages() {
-        [(to, Msg::Auth { number, path, .. })] => Some((*to, *number, path.to)),
+        [
+            (
+                to,
+                Msg::Auth {
+                    number,
+                    mark,
+                    path,
+                    ..
+                },
+            ),
+        ] => Some((*to, *number, *mark, path.to)),
         _ => None,
     }
 }
@@ -134,6 +229,11 @@ fn ends(set: &PointSet) -> [bool; 6] {
         set.has_cell(SegId(3), 0),
         set.has_cell(SegId(3), 29),
     ]
+}
+
+/// The same of what the zone holds for a train.
+fn ends_of(zone: &Zone, train: u16) -> [bool; 6] {
+    ends(&zone.held(TrainId(train)))
 }
 
 #[test]
@@ -159,7 +259,7 @@ fn a_train_enters(rt: HostRuntime) {
         comes_to(0, entry(7, 5, 40), 5, Some(Outcome::Entry(z, t, 1))),
     ];
     run(&rt, &line, &mut zone, &mut outs, &enters);
-    assert_eq!(rt; sent(&outs), Some((0, 1, 100)));
+    assert_eq!(rt; sent(&outs), Some((0, 1, 0, 100)));
     let Some(envelope) = zone.envelope(&line, t) else {
         panic!(rt; "no envelope");
     };
@@ -209,6 +309,163 @@ fn an_ask_is_granted(rt: HostRuntime) {
         comes_to(0, ask(8, &[up(2), up(3)], 10), 10, Some(grant)),
     ];
     run(&rt, &line, &mut zone, &mut outs, &cases);
-    assert_eq!(rt; sent(&outs), Some((0, 2, 10)));
+    assert_eq!(rt; sent(&outs), Some((0, 2, 0, 10)));
     assert_eq!(rt; ends(&zone.held(t)), [true, true, true, true, false, false]);
+}
+
+/// The fronts are from 40 on. At 200 ms they reach 60, and at 300 ms 10 mm more.
+#[test]
+fn reports_narrow_the_fronts(rt: HostRuntime) {
+    let unsure = report_of(7, 300, 0, 60, false);
+    let unsure_below = report_of(7, 300, 0, 55, false);
+    let cases = [
+        comes_to(0, entry(7, 0, 40), 0, enters(7)),
+        comes_to(0, time(200), 200, None),
+        comes_to(0, report(200, 0, 50), 200, place(1, 5, 1, 55)),
+        comes_to(0, report(100, 0, 48), 200, place(1, 5, 1, 55)),
+        comes_to(0, report(100, 0, 38), 200, place(1, 5, 1, 53)),
+        comes_to(0, unsure, 300, place(1, 5, 1, 63)),
+        comes_to(0, unsure_below, 300, place(1, 5, 1, 60)),
+        comes_to(0, report(300, 0, 20), 300, place(1, 5, 1, 60)),
+        comes_to(0, report(300, 1, 20), 300, None),
+        comes_to(0, report_of(8, 300, 0, 50, true), 300, None),
+    ];
+    check(&rt, rt.alloc(), &cases);
+}
+
+/// At 333 mm/s no front moves on by a whole mm in 1 ms, and by 3 mm in 10 ms.
+#[test]
+fn each_growth_is_of_whole_mm(rt: HostRuntime) {
+    let cases = [
+        comes_to(0, entry_of(7, 0, 40, 333), 0, enters(7)),
+        comes_to(0, time(1), 1, None),
+        comes_to(0, time(2), 2, None),
+        comes_to(0, time(3), 3, None),
+        comes_to(0, report_of(7, 3, 0, 90, false), 3, place(1, 0, 1, 40)),
+        comes_to(0, report_of(7, 13, 0, 90, false), 13, place(1, 0, 1, 43)),
+    ];
+    check(&rt, rt.alloc(), &cases);
+}
+
+/// A message of another zone is dropped, but raises Now: the fronts grow by 30 mm, and then up to the limit.
+#[test]
+fn a_dropped_message_lets_the_fronts_grow(rt: HostRuntime) {
+    let cases = [
+        comes_to(0, entry(7, 0, 40), 0, enters(7)),
+        comes_to(2, answer(300), 300, None),
+        comes_to(0, report_of(7, 300, 0, 90, false), 300, place(1, 0, 1, 70)),
+        comes_to(2, answer(1000), 1000, None),
+        comes_to(
+            0,
+            report_of(7, 1000, 0, 99, false),
+            1000,
+            place(1, 0, 1, 100),
+        ),
+    ];
+    check(&rt, rt.alloc(), &cases);
+}
+
+/// At 1000 mm/s. The rear comes to 75 and 95 mm on segment 1, and then to its end.
+#[test]
+fn a_way_is_cut_behind_the_rear(rt: HostRuntime) {
+    let Ok(line) = line_of(rt.alloc()) else {
+        panic!(rt; "no line");
+    };
+    let Ok(mut outs) = Outs::new(rt.alloc()) else {
+        panic!(rt; "want of memory");
+    };
+    let Ok(mut zone) = Zone::start(rt.alloc(), &line, ZoneId(1)) else {
+        panic!(rt; "want of memory");
+    };
+    let ends = granted(7, 2, 50, Obstacle::AskEnds);
+    let within = [
+        comes_to(0, entry_of(7, 0, 40, 1000), 0, enters(7)),
+        comes_to(0, answer(0), 0, None),
+        comes_to(0, ask(0, &[up(2)], 50), 0, ends),
+        comes_to(0, report(85, 1, 20), 85, place(1, 75, 2, 25)),
+        comes_to(0, report(105, 1, 40), 105, place(1, 95, 2, 45)),
+    ];
+    run(&rt, &line, &mut zone, &mut outs, &within);
+    let held = zone.held(TrainId(7));
+    assert!(rt; held.has_cell(SegId(1), 95) && !held.has_cell(SegId(1), 94));
+    let at_the_end = [
+        comes_to(0, report(110, 1, 45), 110, place(2, 0, 2, 50)),
+        comes_to(0, report(110, 0, 99), 110, None),
+        comes_to(0, report(110, 1, 40), 110, place(2, 0, 2, 45)),
+        comes_to(0, time(110), 110, None),
+    ];
+    run(&rt, &line, &mut zone, &mut outs, &at_the_end);
+    assert_eq!(rt; sent(&outs), Some((0, 2, 1, 50)));
+    let held = ends_of(&zone, 7);
+    assert_eq!(rt; held, [false, false, true, true, false, false]);
+    let answered = [
+        comes_to(0, entry(8, 110, 40), 110, enters(8)),
+        comes_to(0, answer_of(7, 110, 2), 110, None),
+        comes_to(0, answer(110), 110, None),
+        comes_to(0, time(110), 110, None),
+    ];
+    run(&rt, &line, &mut zone, &mut outs, &answered);
+    assert_eq!(rt; sent(&outs), None);
+}
+
+/// Train 7 is from 15 to 25 mm on segment 2, and its way ends at 30 mm. Train 5 comes up behind it, which does not hold
+/// train 7 up. Then both fall silent in one step.
+#[test]
+fn a_train_behind_holds_no_train_up(rt: HostRuntime) {
+    let Ok(line) = line_of(rt.alloc()) else {
+        panic!(rt; "no line");
+    };
+    let Ok(mut outs) = Outs::new(rt.alloc()) else {
+        panic!(rt; "want of memory");
+    };
+    let Ok(mut zone) = Zone::start(rt.alloc(), &line, ZoneId(1)) else {
+        panic!(rt; "want of memory");
+    };
+    let to_30 = granted(7, 2, 30, Obstacle::AskEnds);
+    let to_50 = granted(7, 3, 50, Obstacle::AskEnds);
+    let up_to_7 = granted(5, 2, 15, Obstacle::Held);
+    let cases = [
+        comes_to(0, entry_of(7, 0, 10, 1000), 0, enters(7)),
+        comes_to(0, answer(0), 0, None),
+        comes_to(0, ask(0, &[up(2)], 30), 0, to_30),
+        comes_to(0, report(115, 1, 30), 115, place(2, 15, 2, 25)),
+        comes_to(0, entry(5, 115, 10), 115, enters(5)),
+        comes_to(0, answer_of(5, 115, 1), 115, None),
+        comes_to(0, ask_of(5, 115, &[up(2)], 50), 115, up_to_7),
+        comes_to(0, ask(115, &[up(2)], 50), 115, to_50),
+        comes_to(0, time(5115), 5115, None),
+        comes_to(0, time(5116), 5116, None),
+    ];
+    run(&rt, &line, &mut zone, &mut outs, &cases);
+    let alarms = [
+        Outcome::AlarmSilent(ZoneId(1), TrainId(5)),
+        Outcome::AlarmSilent(ZoneId(1), TrainId(7)),
+    ];
+    assert_eq!(rt; outs.lines(), alarms.as_slice());
+}
+
+/// A train is silent more than 5000 ms behind its last report; the entry counts as one.
+#[test]
+fn a_train_falls_silent(rt: HostRuntime) {
+    let alarm = Some(Outcome::AlarmSilent(ZoneId(1), TrainId(7)));
+    let silent = Some(Outcome::Deny(ZoneId(1), TrainId(7), Obstacle::Silent));
+    let not_joined = Some(Outcome::Deny(ZoneId(1), TrainId(7), Obstacle::NotJoined));
+    let ends = granted(7, 2, 50, Obstacle::AskEnds);
+    let old = report_of(7, 700, 0, 90, false);
+    let cases = [
+        comes_to(0, entry(7, 10, 40), 10, enters(7)),
+        comes_to(0, answer(10), 10, None),
+        comes_to(0, time(5010), 5010, None),
+        comes_to(0, time(5011), 5011, alarm),
+        comes_to(0, time(6000), 6000, None),
+        comes_to(0, ask(6000, &[up(2)], 50), 6000, silent),
+        comes_to(0, ask(6000, &[up(3)], 30), 6000, not_joined),
+        comes_to(0, old, 6000, place(1, 0, 1, 100)),
+        comes_to(0, ask(6000, &[up(2)], 50), 6000, silent),
+        comes_to(0, report(6000, 0, 50), 6000, place(1, 5, 1, 55)),
+        comes_to(0, ask(6000, &[up(2)], 50), 6000, ends),
+        comes_to(0, time(11_000), 11_000, None),
+        comes_to(0, time(11_001), 11_001, alarm),
+    ];
+    check(&rt, rt.alloc(), &cases);
 }

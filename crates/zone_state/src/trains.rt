@@ -7,11 +7,12 @@ ghost use Rattle.definitions.specs.declared.item.Item.{Item};
 ghost use Rattle.definitions.specs.Track.{owner, seg_len, has_segment};
 ghost use Rattle.definitions.specs.Steps.{nothing, zone_ask, zone_entry, deny, refuse, entry_path};
 ghost use Rattle.way_path.specs.Ways.{IsWay, OnLine, EndsWithPath};
-ghost use Rattle.plain_state.specs.Zone.{find_way, change_way, answered_by, lengthened, last_found, path_found, reach_plain, holder_plain, full, fresh_train, ways_asked, ways_entered, entered_way};
-ghost use Rattle.zone_state.specs.Zone.{plain_train, TrainFits, AllFit, is_train, counted, reach_value, ReachFits, ReachFitsFound, longer_way, way_granted, way_asked, entry_way, entry_granted};
+ghost use Rattle.plain_state.specs.Zone.{find_way, change_way, answered_by, lengthened, last_found, path_found, way_found, again_found, placed_way, reach_plain, holder_plain, full, fresh_train, ways_asked, ways_entered, entered_way};
+ghost use Rattle.zone_state.specs.Zone.{plain_train, TrainFits, AllFit, is_train, counted, reach_value, ReachFits, ReachFitsFound, longer_way, way_granted, way_asked, entry_way, entry_granted, place_for};
 
+use crate::clock::is_silent;
 use crate::held::holder;
-use crate::reach::{Reach, reach_from};
+use crate::reach::{Reach, barred, reach_from};
 use crate::steps::{extend_by, further};
 use arrayvec::ArrayVec;
 use definitions::outcome::{Obstacle, Refusal};
@@ -28,10 +29,16 @@ pub struct Controlled {
     pub id: TrainId,
     /// In mm.
     pub train_length: u32,
-    /// The longest path that it may hold.
+    /// How far a report of it may be off, in mm.
+    pub error: u32,
+    /// Its greatest speed, in mm/s.
+    pub speed: u32,
+    /// From its least rear to the end of the longest authority that it may hold.
     pub way: Way,
-    /// Where its front may be.
+    /// Where its front may be, as places on its way.
     pub fronts: Fronts,
+    /// The greatest time of a report that it used, in ms; the entry counts as one.
+    pub report: u64,
     /// The last number issued to it.
     pub last: u32,
     /// The greatest number counted from its answers.
@@ -57,7 +64,7 @@ fn count_answer(x: &mut Controlled, number: u32)
 /// Counts an answer of a train.
 pub fn answer(trains: &mut [Controlled], train: TrainId, number: u32)
     ensures next { map plain_train trains.new ≡ change_way train.0 (answered_by number) (map plain_train trains.old) }
-    ensures fits { (line : List Item) (z : ℕ) → AllFit line z trains.old → AllFit line z trains.new }
+    ensures fits { (line : List Item) (z clock : ℕ) → AllFit line z clock trains.old → AllFit line z clock trains.new }
 {
     if let Some(i) = train_index(trains, train) {
         count_answer(&mut trains[i], number);
@@ -89,7 +96,7 @@ fn lengthen_way(line: &Line, way: &mut Way, asked: &[DirSeg], distance: u32)
 }
 
 /// The points of a way in a zone's own track.
-fn hold_of(line: &Line, zone: u8, way: &Way) -> PointSet
+pub fn hold_of(line: &Line, zone: u8, way: &Way) -> PointSet
     ensures hold { (point : Point) → set_has result point ≡ (nat_eq (owner line.now point) zone && has_between (seg_len line.now) way.now.path.steps.items way.now.path.from way.now.end point) }
     ensures way { IsWay way.now }
 {
@@ -99,12 +106,12 @@ fn hold_of(line: &Line, zone: u8, way: &Way) -> PointSet
 
 /// Lengthens the way of a train up to a distance from its end, and makes its hold anew.
 fn lengthen(line: &Line, zone: u8, x: &mut Controlled, asked: &[DirSeg], distance: u32)
-    requires fits { TrainFits line.now zone x.old }
+    requires fits { TrainFits line.now zone x.old.fronts.at x.old }
     requires fresh { fresh_train (plain_train x.old) ≡ true }
     requires some { 0 < distance }
     requires reaches { ReachFits line.now x.old.way.path asked.now distance }
     ensures next { plain_train x.new ≡ lengthened (seg_len line.now) asked.now distance (plain_train x.old) }
-    ensures fits { TrainFits line.now zone x.new }
+    ensures fits { TrainFits line.now zone x.old.fronts.at x.new }
 {
     lengthen_way(line, &mut x.way, asked, distance);
     x.hold = hold_of(line, zone, &x.way);
@@ -130,7 +137,7 @@ fn granted(zone: u8, train: TrainId, x: &Controlled, obstacle: Obstacle, outs: &
         Msg::Auth {
             train,
             number: x.last,
-            mark: 0,
+            mark: x.way.mark(),
             path: path.copy(),
         },
     );
@@ -140,25 +147,25 @@ fn granted(zone: u8, train: TrainId, x: &Controlled, obstacle: Obstacle, outs: &
 fn reach_of(
     line: &Line,
     zone: u8,
+    clock: u64,
     trains: &[Controlled],
     train: TrainId,
     asked: &[DirSeg],
     to: u32,
 ) -> Reach
     requires few { length asked.now ≤ 24 }
-    requires fits { AllFit line.now zone trains.now }
-    ensures reach { reach_value result ≡ reach_plain line.now zone (map plain_train trains.now) train.0 asked.now to }
+    requires fits { AllFit line.now zone clock trains.now }
+    ensures reach { reach_value result ≡ reach_plain line.now zone clock (map plain_train trains.now) train.0 asked.now to }
     ensures fits { ReachFitsFound line.now (path_found (find_way train.0 (map plain_train trains.now))) asked.now result.distance }
 {
     match train_index(trains, train) {
-        None => Reach {
-            distance: 0,
-            obstacle: Obstacle::NotJoined,
-        },
+        None => barred(Obstacle::NotJoined),
         Some(i) => {
             let x = &trains[i];
             let ready = x.answered > 0;
-            reach_from(line, zone, trains, train, ready, x.way.path(), asked, to)
+            let silent = is_silent(line.silent(), x.report, clock);
+            let path = x.way.path();
+            reach_from(line, zone, trains, train, ready, silent, path, asked, to)
         }
     }
 }
@@ -174,12 +181,12 @@ fn ask_train(
     outs: &mut Outs,
 )
     requires empty { outs.old ≡ nothing }
-    requires fits { TrainFits line.now zone x.old }
+    requires fits { TrainFits line.now zone x.old.fronts.at x.old }
     requires fresh { fresh_train (plain_train x.old) ≡ true }
     requires reaches { ReachFits line.now x.old.way.path asked.now reach.distance }
-    ensures gives { outs.new ≡ zone_ask (seg_len line.now) zone train x.old.last (Some x.old.way.path) asked.now (reach_value reach) }
+    ensures gives { outs.new ≡ zone_ask (seg_len line.now) zone train x.old.last (Some x.old.way) asked.now (reach_value reach) }
     ensures next { plain_train x.new ≡ way_asked (seg_len line.now) asked.now (reach_value reach) (plain_train x.old) }
-    ensures fits { TrainFits line.now zone x.new }
+    ensures fits { TrainFits line.now zone x.old.fronts.at x.new }
 {
     if reach.distance == 0 {
         denied(zone, train, reach, outs);
@@ -193,6 +200,7 @@ fn ask_train(
 pub fn ask(
     line: &Line,
     zone: u8,
+    clock: u64,
     trains: &mut [Controlled],
     train: TrainId,
     asked: &[DirSeg],
@@ -201,17 +209,52 @@ pub fn ask(
 )
     requires few { length asked.now ≤ 24 }
     requires empty { outs.old ≡ nothing }
-    requires fits { AllFit line.now zone trains.old }
+    requires fits { AllFit line.now zone clock trains.old }
     requires fresh { list_all fresh_train (map plain_train trains.old) ≡ true }
-    ensures gives { outs.new ≡ zone_ask (seg_len line.now) zone train (last_found (find_way train.0 (map plain_train trains.old))) (path_found (find_way train.0 (map plain_train trains.old))) asked.now (reach_plain line.now zone (map plain_train trains.old) train.0 asked.now to) }
-    ensures next { map plain_train trains.new ≡ ways_asked (seg_len line.now) train.0 asked.now (reach_plain line.now zone (map plain_train trains.old) train.0 asked.now to) (map plain_train trains.old) }
-    ensures fits { AllFit line.now zone trains.new }
+    ensures gives { outs.new ≡ zone_ask (seg_len line.now) zone train (last_found (find_way train.0 (map plain_train trains.old))) (way_found (find_way train.0 (map plain_train trains.old))) asked.now (reach_plain line.now zone clock (map plain_train trains.old) train.0 asked.now to) }
+    ensures next { map plain_train trains.new ≡ ways_asked (seg_len line.now) train.0 asked.now (reach_plain line.now zone clock (map plain_train trains.old) train.0 asked.now to) (map plain_train trains.old) }
+    ensures fits { AllFit line.now zone clock trains.new }
 {
-    let reach = reach_of(line, zone, trains, train, asked, to);
+    let reach = reach_of(line, zone, clock, trains, train, asked, to);
     match train_index(trains, train) {
         None => denied(zone, train, reach, outs),
         Some(i) => ask_train(line, zone, &mut trains[i], train, asked, reach, outs),
     }
+}
+
+/// Sends the last authority of a train again where its number is not answered.
+pub fn send_again(trains: &[Controlled], train: TrainId, outs: &mut Outs)
+    requires { outs.old ≡ nothing }
+    ensures { outs.new ≡ again_found train (find_way train.0 (map plain_train trains.now)) }
+{
+    let Some(i) = train_index(trains, train) else {
+        return;
+    };
+    let x = &trains[i];
+    if x.answered < x.last {
+        outs.send(
+            0,
+            Msg::Auth {
+                train,
+                number: x.last,
+                mark: x.way.mark(),
+                path: x.way.path().copy(),
+            },
+        );
+    }
+}
+
+/// A request for entry: the train with its facts, and the step at which it would come in.
+#[derive(Clone, Copy)]
+pub struct Request {
+    pub train: TrainId,
+    /// In mm.
+    pub train_length: u32,
+    /// How far a report may be off, in mm.
+    pub error: u32,
+    /// In mm/s.
+    pub speed: u16,
+    pub step: DirSeg,
 }
 
 fn refused(zone: u8, train: TrainId, refusal: Refusal, outs: &mut Outs)
@@ -250,32 +293,28 @@ fn way_at_entry(line: &Line, step: DirSeg, room: u32) -> Way
 }
 
 /// A train as it enters: its front is where its rear has just come in.
-fn train_at_entry(
-    line: &Line,
-    zone: u8,
-    clock: u64,
-    train: TrainId,
-    train_length: u32,
-    step: DirSeg,
-    room: u32,
-) -> Controlled
-    requires room { room ≡ seg_len line.now step.seg.0 }
-    requires some { 0 < room }
-    requires long { train_length ≤ room }
-    ensures next { plain_train result ≡ entered_way clock train room train_length step }
-    ensures fits { TrainFits line.now zone result }
+fn train_at_entry(line: &Line, zone: u8, clock: u64, request: Request, room: u32) -> Controlled
+    requires room { room ≡ seg_len line.now request.step.seg.0 }
+    requires long { request.train_length ≤ room }
+    requires some { 1 ≤ request.train_length }
+    ensures next { plain_train result ≡ entered_way clock request.train room request.train_length request.error request.speed request.step }
+    ensures fits { TrainFits line.now zone clock result }
 {
-    let way = way_at_entry(line, step, room);
+    let way = way_at_entry(line, request.step, room);
     let hold = hold_of(line, zone, &way);
+    let long = request.train_length;
     Controlled {
-        id: train,
-        train_length,
+        id: request.train,
+        train_length: long,
+        error: request.error,
+        speed: u32::from(request.speed),
         way,
         fronts: Fronts {
-            lo: train_length,
-            hi: train_length,
+            lo: long,
+            hi: long,
             at: clock,
         },
+        report: clock,
         last: 1,
         answered: 0,
         hold,
@@ -317,40 +356,69 @@ fn is_full(trains: &[Controlled]) -> bool
     trains.len() >= 256
 }
 
+/// The index at which a train goes in: before the first of a greater id.
+#[tactic(auto, unfolding(crate::specs::Zone::place_for))]
+fn place_for(trains: &[Controlled], train: TrainId) -> usize
+    ensures place { result ≡ place_for train.0 trains.now }
+    ensures within { result ≤ length trains.now }
+{
+    match trains {
+        [] => 0,
+        [x, rest @ ..] => {
+            if train.0 < x.id.0 {
+                0
+            } else {
+                1 + place_for(rest, train)
+            }
+        }
+    }
+}
+
+/// Puts a train among those that the zone controls, which has room for it.
+fn put(trains: &mut Vec<Controlled>, x: Controlled)
+    requires few { length trains.old.items < 256 }
+    requires room { 256 ≤ vec_capacity trains.old }
+    ensures next { map plain_train trains.new.items ≡ placed_way (plain_train x) (map plain_train trains.old.items) }
+    ensures room { 256 ≤ vec_capacity trains.new }
+    ensures fits { (line : List Item) (z clock : ℕ) → TrainFits line z clock x → AllFit line z clock trains.old.items → AllFit line z clock trains.new.items }
+{
+    let index = place_for(trains.as_slice(), x.id);
+    let _ = trains.insert(index, x);
+}
+
 /// Answers a request for entry.
 pub fn enter(
     line: &Line,
     zone: u8,
     clock: u64,
     trains: &mut Vec<Controlled>,
-    train: TrainId,
-    train_length: u32,
-    step: DirSeg,
+    request: Request,
     outs: &mut Outs,
 )
-    requires declared { has_segment line.now step.seg.0 ≡ true }
+    requires declared { has_segment line.now request.step.seg.0 ≡ true }
+    requires some { 1 ≤ request.train_length }
     requires empty { outs.old ≡ nothing }
     requires room { 256 ≤ vec_capacity trains.old }
-    requires fits { AllFit line.now zone trains.old.items }
-    ensures gives { outs.new ≡ zone_entry zone (is_some (find_way train.0 (map plain_train trains.old.items))) (full (map plain_train trains.old.items)) (seg_len line.now step.seg.0) train train_length step (holder_plain line.now zone (map plain_train trains.old.items) step.seg.0) }
-    ensures next { map plain_train trains.new.items ≡ ways_entered clock (is_some (find_way train.0 (map plain_train trains.old.items))) (full (map plain_train trains.old.items)) (seg_len line.now step.seg.0) train train_length step (holder_plain line.now zone (map plain_train trains.old.items) step.seg.0) (map plain_train trains.old.items) }
+    requires fits { AllFit line.now zone clock trains.old.items }
+    ensures gives { outs.new ≡ zone_entry zone (is_some (find_way request.train.0 (map plain_train trains.old.items))) (full (map plain_train trains.old.items)) (seg_len line.now request.step.seg.0) request.train request.train_length request.step (holder_plain line.now zone (map plain_train trains.old.items) request.step.seg.0) }
+    ensures next { map plain_train trains.new.items ≡ ways_entered clock (is_some (find_way request.train.0 (map plain_train trains.old.items))) (full (map plain_train trains.old.items)) (seg_len line.now request.step.seg.0) request.train request.train_length request.error request.speed request.step (holder_plain line.now zone (map plain_train trains.old.items) request.step.seg.0) (map plain_train trains.old.items) }
     ensures room { 256 ≤ vec_capacity trains.new }
-    ensures fits { AllFit line.now zone trains.new.items }
+    ensures fits { AllFit line.now zone clock trains.new.items }
 {
+    let train = request.train;
     if knows(trains.as_slice(), train) {
         return refused(zone, train, Refusal::Known, outs);
     }
     if is_full(trains.as_slice()) {
         return refused(zone, train, Refusal::TooMany, outs);
     }
-    let room = line.seg_len(step.seg);
-    if room < train_length {
+    let room = line.seg_len(request.step.seg);
+    if room < request.train_length {
         return refused(zone, train, Refusal::TooLong, outs);
     }
-    if let Some(other) = holder(line, zone, trains.as_slice(), step.seg) {
+    if let Some(other) = holder(line, zone, trains.as_slice(), request.step.seg) {
         return refused(zone, train, Refusal::Held(TrainId(other)), outs);
     }
-    let first = train_at_entry(line, zone, clock, train, train_length, step, room);
-    let _ = trains.push(first);
-    entered(zone, train, step, room, outs);
+    put(trains, train_at_entry(line, zone, clock, request, room));
+    entered(zone, train, request.step, room, outs);
 }

@@ -1,5 +1,5 @@
 //! The zone, as the world's messages drive it.
-ghost use Rattle.std.specs.Prelude.{◌≡◌, ◌≤◌, ◌&&◌, map, max, nat_eq, true, IfOk, vec_capacity};
+ghost use Rattle.std.specs.Prelude.{◌≡◌, ◌≤◌, ◌&&◌, if◌then◌else◌, length, map, max, nat_eq, true, IfOk, vec_capacity};
 ghost use Rattle.std.specs.List.{list_all};
 ghost use Rattle.track_points.specs.Points.{Point};
 ghost use Rattle.track_points.specs.Sets.{set_has};
@@ -7,10 +7,12 @@ ghost use Rattle.definitions.specs.Track.{seg_len};
 ghost use Rattle.definitions.specs.Control.{message_time};
 ghost use Rattle.definitions.specs.Steps.{nothing};
 ghost use Rattle.plain_state.specs.Plain.{zone_start};
-ghost use Rattle.plain_state.specs.Zone.{find_way, hold_has, zone_answer, ways_after, enters_here, fresh_number, fresh_mark, fresh_train, fresh_message, fresh, zone_take_effect, zone_take_next};
-ghost use Rattle.zone_state.specs.Zone.{plain_train, plain_zone, AllFit, IsZoneOn, IsEnvelope, entry_declared};
+ghost use Rattle.plain_state.specs.Zone.{find_way, hold_has, zone_answer, zone_gives, ways_after, enters_here, fresh_number, fresh_mark, fresh_train, fresh_message, fresh, trains_stepped, zone_take_effect, zone_take_next};
+ghost use Rattle.zone_state.specs.Zone.{plain_train, plain_zone, Distinct, AllFit, IsZoneOn, IsEnvelope, InRange, entry_declared};
 
-use crate::trains::{Controlled, answer, ask, enter, train_index};
+use crate::clock::{alarms, grow_all};
+use crate::report::{PositionReport, report};
+use crate::trains::{Controlled, Request, answer, ask, enter, send_again, train_index};
 use line_map::Line;
 use msg_codec::{Msg, Outs};
 use std::alloc::{AllocError, Global};
@@ -30,14 +32,14 @@ pub struct Zone {
 }
 
 impl Model for Zone {
-    ghost use Rattle.std.specs.Prelude.{◌≤◌, vec_capacity};
-    ghost use Rattle.zone_state.specs.Zone.{ZoneKept};
+    ghost use Rattle.std.specs.Prelude.{◌≤◌, length, map, vec_capacity};
+    ghost use Rattle.zone_state.specs.Zone.{ZoneKept, plain_train, Distinct};
 
     ghost Value = { ZoneKept };
 
     ghost view = { λ z. record { id = z.id; clock = z.clock; trains = z.trains.items } };
 
-    ghost invariant = { λ z. 256 ≤ vec_capacity z.trains };
+    ghost invariant = { λ z. (256 ≤ vec_capacity z.trains) × ((length z.trains.items ≤ 256) × Distinct (map plain_train z.trains.items)) };
 }
 
 /// The time in a message.
@@ -45,6 +47,8 @@ fn message_time(message: &Msg) -> u64
     ensures { result ≡ message_time message.now }
 {
     match message {
+        Msg::Report { time, .. } => *time,
+        Msg::Time { time, .. } => *time,
         Msg::EntryAsk { time, .. } => *time,
         Msg::Ask { time, .. } => *time,
         Msg::Answer { time, .. } => *time,
@@ -122,22 +126,35 @@ fn take(
     outs: &mut Outs,
 )
     requires declared { entry_declared line.now message.now ≡ true }
+    requires range { InRange message.now }
+    requires later { message_time message.now ≤ clock }
     requires fresh { list_all fresh_train (map plain_train trains.old.items) ≡ true }
     requires empty { outs.old ≡ nothing }
     requires room { 256 ≤ vec_capacity trains.old }
-    requires fits { AllFit line.now zone trains.old.items }
-    ensures gives { outs.new ≡ zone_answer line.now zone (map plain_train trains.old.items) message.now }
+    requires fits { AllFit line.now zone clock trains.old.items }
+    ensures gives { outs.new ≡ zone_answer line.now zone clock (map plain_train trains.old.items) message.now }
     ensures next { map plain_train trains.new.items ≡ ways_after line.now zone clock (map plain_train trains.old.items) message.now }
     ensures room { 256 ≤ vec_capacity trains.new }
-    ensures fits { AllFit line.now zone trains.new.items }
+    ensures fits { AllFit line.now zone clock trains.new.items }
 {
     match message {
         Msg::EntryAsk {
             train,
             length,
+            error,
+            speed,
             step,
             ..
-        } => enter(line, zone, clock, trains, *train, *length, *step, outs),
+        } => {
+            let request = Request {
+                train: *train,
+                train_length: *length,
+                error: *error,
+                speed: *speed,
+                step: *step,
+            };
+            enter(line, zone, clock, trains, request, outs)
+        }
         Msg::Ask {
             train,
             steps,
@@ -146,15 +163,114 @@ fn take(
         } => ask(
             line,
             zone,
+            clock,
             trains.as_mut_slice(),
             *train,
             steps.as_slice(),
             *to,
             outs,
         ),
+        Msg::Report {
+            train,
+            time,
+            mark,
+            offset,
+            integrity,
+        } => {
+            let said = PositionReport {
+                time: *time,
+                mark: *mark,
+                offset: *offset,
+                integrity: *integrity,
+            };
+            report(line, zone, trains.as_mut_slice(), *train, said, outs)
+        }
+        Msg::Time { train, .. } => send_again(trains.as_slice(), *train, outs),
         Msg::Answer { train, number, .. } => answer(trains.as_mut_slice(), *train, *number),
         Msg::Auth { .. } => {}
     }
+}
+
+/// A message acts, where the zone heeds it.
+fn act(
+    line: &Line,
+    zone: u8,
+    clock: u64,
+    trains: &mut Vec<Controlled>,
+    message: &Msg,
+    heeded: bool,
+    outs: &mut Outs,
+)
+    requires declared { heeded ≡ true → entry_declared line.now message.now ≡ true }
+    requires range { InRange message.now }
+    requires later { message_time message.now ≤ clock }
+    requires fresh { heeded ≡ true → list_all fresh_train (map plain_train trains.old.items) ≡ true }
+    requires empty { outs.old ≡ nothing }
+    requires room { 256 ≤ vec_capacity trains.old }
+    requires fits { AllFit line.now zone clock trains.old.items }
+    ensures gives { outs.new ≡ (if heeded then zone_answer line.now zone clock (map plain_train trains.old.items) message.now else nothing) }
+    ensures next { map plain_train trains.new.items ≡ (if heeded then ways_after line.now zone clock (map plain_train trains.old.items) message.now else map plain_train trains.old.items) }
+    ensures room { 256 ≤ vec_capacity trains.new }
+    ensures fits { AllFit line.now zone clock trains.new.items }
+{
+    if heeded {
+        take(line, zone, clock, trains, message, outs);
+    }
+}
+
+/// The fronts of all trains grow as a message raises Now; then the message acts, where the zone heeds it.
+fn move_on(
+    line: &Line,
+    zone: u8,
+    before: u64,
+    clock: u64,
+    trains: &mut Vec<Controlled>,
+    message: &Msg,
+    from: u8,
+    outs: &mut Outs,
+)
+    requires clock { clock ≡ max before (message_time message.now) }
+    requires range { InRange message.now }
+    requires empty { outs.old ≡ nothing }
+    requires room { 256 ≤ vec_capacity trains.old }
+    requires fits { AllFit line.now zone before trains.old.items }
+    ensures gives { outs.new ≡ zone_gives line.now (record { id = zone; clock = before; trains = map plain_train trains.old.items }) from message.now }
+    ensures next { map plain_train trains.new.items ≡ trains_stepped line.now (record { id = zone; clock = before; trains = map plain_train trains.old.items }) from message.now }
+    ensures room { 256 ≤ vec_capacity trains.new }
+    ensures fits { AllFit line.now zone clock trains.new.items }
+{
+    let heeded = heeds(line, zone, trains.as_slice(), message, from);
+    grow_all(trains.as_mut_slice(), before, clock);
+    act(line, zone, clock, trains, message, heeded, outs);
+}
+
+/// What a message comes to, which raises Now: the alarms come last.
+fn advance(
+    line: &Line,
+    zone: u8,
+    before: u64,
+    clock: u64,
+    trains: &mut Vec<Controlled>,
+    message: &Msg,
+    from: u8,
+    outs: &mut Outs,
+)
+    requires clock { clock ≡ max before (message_time message.now) }
+    requires range { InRange message.now }
+    requires empty { outs.old ≡ nothing }
+    requires room { 256 ≤ vec_capacity trains.old }
+    requires few { length trains.old.items ≤ 256 }
+    requires distinct { Distinct (map plain_train trains.old.items) }
+    requires fits { AllFit line.now zone before trains.old.items }
+    ensures gives { outs.new ≡ zone_take_effect line.now (record { id = zone; clock = before; trains = map plain_train trains.old.items }) from message.now }
+    ensures next { map plain_train trains.new.items ≡ trains_stepped line.now (record { id = zone; clock = before; trains = map plain_train trains.old.items }) from message.now }
+    ensures room { 256 ≤ vec_capacity trains.new }
+    ensures few { length trains.new.items ≤ 256 }
+    ensures distinct { Distinct (map plain_train trains.new.items) }
+    ensures fits { AllFit line.now zone clock trains.new.items }
+{
+    move_on(line, zone, before, clock, trains, message, from, outs);
+    alarms(line.silent(), zone, before, clock, trains.as_slice(), outs);
 }
 
 impl Zone {
@@ -184,18 +300,21 @@ impl Zone {
         self.clock
     }
 
-    /// The zone takes a message. It takes no memory.
+    /// The zone takes a message. It takes no memory. First Now rises, and the fronts of all trains grow; then the message
+    /// acts, where the zone heeds it; last come the alarms.
     pub fn step(&mut self, line: &Line, message: &Msg, from: u8, outs: &mut Outs)
         requires empty { outs.old ≡ nothing }
         requires fits { IsZoneOn line.now self.old }
+        requires range { InRange message.now }
         ensures gives { outs.new ≡ zone_take_effect line.now (plain_zone self.old) from message.now }
         ensures next { plain_zone self.new ≡ zone_take_next line.now (plain_zone self.old) from message.now }
         ensures fits { IsZoneOn line.now self.new }
     {
-        self.clock = self.clock.max(message_time(message));
-        if heeds(line, self.id, self.trains.as_slice(), message, from) {
-            take(line, self.id, self.clock, &mut self.trains, message, outs);
-        }
+        let before = self.clock;
+        let clock = before.max(message_time(message));
+        self.clock = clock;
+        let trains = &mut self.trains;
+        advance(line, self.id, before, clock, trains, message, from, outs);
     }
 
     /// The points that it holds for a train; none where it does not control the train.

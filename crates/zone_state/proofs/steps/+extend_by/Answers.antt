@@ -1,7 +1,7 @@
 use Rattle.std.proofs.Common.{arith, get_or}
+use Rattle.definitions.specs.Track.{last_step}
 use Rattle.track_points.specs.declared.ids.Dir.TheVariants.{Up}
 use Rattle.track_points.specs.declared.ids.DirSeg.{DirSeg}
-use Rattle.definitions.specs.Limit.{last_step}
 use Rattle.way_path.proofs.OnSteps.{rest_is}
 use Rattle.zone_state.proofs.OnSteps.{stays_full, stays_bare, joined_step, once_step, extends_ok, goes_on}
 use Rattle.zone_state.proofs.steps.+extend_by.Goals as goal

@@ -14,6 +14,6 @@ returns-in_default-clause-next c =
     sym (kept c.args.train.0 (answered_by c.args.number) c.args.trains.now (sym c.in_default.ensures.first))
 
 pub returns-in-Some-clause-fits : goal.returns-in-Some-clause-fits
-returns-in-Some-clause-fits c = λ line z h.
-    fit_set line z c.args.trains.now c.in-Some.i c.count_answer.new.x h
-    (rw c.count_answer.ensures (fit_counted line z c.args.number _ (fit_one line z c.args.trains.now c.in-Some.i c.index-trains-i.result c.in-Some.ensures.within h)))
+returns-in-Some-clause-fits c = λ line z clock h.
+    fit_set line z clock c.args.trains.now c.in-Some.i c.count_answer.new.x h
+    (rw c.count_answer.ensures (fit_counted line z clock c.args.number _ (fit_one line z clock c.args.trains.now c.in-Some.i c.index-trains-i.result c.in-Some.ensures.within h)))

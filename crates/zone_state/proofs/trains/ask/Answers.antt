@@ -2,12 +2,12 @@ use Rattle.std.proofs.Common.{sym, refl}
 use Rattle.definitions.specs.Track.{seg_len}
 use Rattle.plain_state.specs.Zone.{fresh_train}
 use Rattle.zone_state.specs.Zone.{reach_value}
-use Rattle.zone_state.proofs.Found.{found, absent, asked_at, passes, fit_one, fit_set}
+use Rattle.zone_state.proofs.Found.{found, absent, asked_at, passes, fit_one, fit_set, fit_own, fit_again}
 use Rattle.zone_state.proofs.trains.ask.Goals as goal
 
 pub ask_train-requires-clause-fits : goal.ask_train-requires-clause-fits
 ask_train-requires-clause-fits c =
-    fit_one c.args.line.now c.args.zone c.args.trains.now c.in-Some.i c.index-trains-i.result c.in-Some.ensures.within c.requires.fits
+    fit_own c.args.line.now c.args.zone c.args.clock _ (fit_one c.args.line.now c.args.zone c.args.clock c.args.trains.now c.in-Some.i c.index-trains-i.result c.in-Some.ensures.within c.requires.fits)
 
 pub ask_train-requires-clause-fresh : goal.ask_train-requires-clause-fresh
 ask_train-requires-clause-fresh c =
@@ -39,4 +39,6 @@ returns-in-Some-clause-next c =
     (reach_value c.reach_of-reach.result) c.args.trains.now c.in-Some.i c.index-trains-i.result c.ask_train.new.x (sym c.in-Some.ensures.first) c.ask_train.ensures.next))
 
 pub returns-in-Some-clause-fits : goal.returns-in-Some-clause-fits
-returns-in-Some-clause-fits c = fit_set c.args.line.now c.args.zone c.args.trains.now c.in-Some.i c.ask_train.new.x c.requires.fits c.ask_train.ensures.fits
+returns-in-Some-clause-fits c = fit_set c.args.line.now c.args.zone c.args.clock c.args.trains.now c.in-Some.i c.ask_train.new.x c.requires.fits
+    (fit_again c.args.line.now c.args.zone c.args.clock _ c.ask_train.new.x
+    (fit_one c.args.line.now c.args.zone c.args.clock c.args.trains.now c.in-Some.i c.index-trains-i.result c.in-Some.ensures.within c.requires.fits) c.ask_train.ensures.fits)

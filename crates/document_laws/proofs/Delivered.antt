@@ -1,0 +1,133 @@
+-- The takes that a delivery stands for are admitted where they stand: they name messages that were sent.
+use Rattle.std.proofs.Common.{◌≡◌, ℕ, zero, suc, ◌+◌, ◌-◌, ◌≤◌, ◌<◌, List, [], ◌∷◌, length, Bool, true, false, refl, sym, ◌∙◌, ap, arith}
+use Rattle.std.proofs.lemmas.Bool.Decides.{nat_tests}
+use Rattle.std.proofs.lemmas.List.Folds.{list_all-append}
+use Rattle.std.specs.Prelude.{nat_eq, nat_lt, nat_le, ◌&&◌, not, filter, flat_map, Option, Some, None}
+use Rattle.std.specs.List.{list_all}
+use Rattle.definitions.specs.declared.event.Event.{Event}
+use Rattle.definitions.specs.declared.event.Event.TheVariants.{Train, Entry, Enter, Ask, Step, Report, Time, Take, Deliver}
+use Rattle.definitions.specs.declared.message.Msg.{Msg}
+use Rattle.definitions.specs.Track.{Line, is_actor}
+use Rattle.definitions.specs.Story.{Story, sent}
+use Rattle.definitions.specs.Premises.{admits}
+use Rattle.definitions.specs.Steps.{effects, story_of, taking, message, taken_most, takes_from, due, sends_to, actors, deliveries}
+use Rattle.definitions.specs.Safe.{Kept}
+use Rattle.definitions.specs.Trace.{went, stands_for}
+
+pub by_test : {P : Type 0} (b : Bool) → (b ≡ true → P) → (b ≡ false → P) → P
+by_test true f g = f refl
+by_test false f g = g refl
+
+pub both : (x y : Bool) → (x && y) ≡ true → (x ≡ true) × (y ≡ true)
+both true y h = (refl, h)
+both false y h = absurd cc
+
+all : (x y : Bool) → x ≡ true → y ≡ true → (x && y) ≡ true
+all x y h k = grind arith
+
+-- each of further events of a history is admitted where it stands
+unfoldable pub AllAdmitted : Line → List Event → List Event → Type 0
+AllAdmitted line before [] = Unit {0}
+AllAdmitted line before (e ∷ more) = (admits line (story_of line before) e ≡ true) × AllAdmitted line (e ∷ before) more
+
+pub kept_went : (line : Line) (more before : List Event) → AllAdmitted line before more → Kept line before → Kept line (went line before more).events
+unfolding AllAdmitted Kept went
+kept_went line [] before a k = k
+kept_went line (e ∷ more) before a k = kept_went line more (e ∷ before) a.1 (a.0, k)
+
+-- a take by an actor of a message that was sent to it
+abbrev fits : Line → ℕ → Story → Event → Bool
+fits line to s (Take a from number) = nat_eq a to && (sends_to line to from && (nat_lt 0 number && nat_le number (length (sent from to s))))
+fits line to s _ = false
+
+-- the same messages were sent to an actor by each other one
+abbrev SameSent : ℕ → Story → Story → Type 0
+SameSent to s t = (from : ℕ) → nat_eq to from ≡ false → sent from to t ≡ sent from to s
+
+taker : (line : Line) (s : Story) (e : Event) (to from : ℕ) (m : Option Msg) → (taking line s e to from m).actor ≡ to
+taker line s e to from None = refl
+taker line s e to from (Some m) = refl
+
+-- a take by an actor changes what that actor sends alone
+same_more : (line : Line) (to from number : ℕ) (s t : Story) → SameSent to s t → SameSent to s (effects line t (Take to from number) ∷ t)
+unfolding sent
+same_more line to from number s t same other h =
+    rw (taker line t (Take to from number) to from (message from to number t), h) (same other h)
+
+not_same : (b : Bool) → not b ≡ true → b ≡ false
+not_same true h = absurd cc
+not_same false h = refl
+
+number_same : (m n : ℕ) → nat_eq m n ≡ true → m ≡ n
+number_same m n h = grind (arith, nat_tests)
+
+fit_admitted : (line : Line) (to from number : ℕ) (s t : Story) → SameSent to s t → is_actor line to ≡ true → fits line to s (Take to from number) ≡ true → admits line t (Take to from number) ≡ true
+fit_admitted line to from number s t same act h =
+    let k = both (nat_eq to to) (sends_to line to from && (nat_lt 0 number && nat_le number (length (sent from to s)))) h in
+    let x = both (sends_to line to from) (nat_lt 0 number && nat_le number (length (sent from to s))) k.1 in
+    let y = both (not (nat_eq to from)) (is_actor line from) x.0 in
+    let other = not_same (nat_eq to from) y.0 in
+    rw (other, act, y.1, same from other, x.1) refl
+
+pub all_admitted : (line : Line) (to : ℕ) (more : List Event) (s : Story) (before : List Event) → SameSent to s (story_of line before) → is_actor line to ≡ true → list_all (fits line to s) more ≡ true → AllAdmitted line before more
+unfolding AllAdmitted story_of
+all_admitted line to [] s before same act h = tt
+all_admitted line to (Take a from number ∷ more) s before same act h =
+    let k = both (fits line to s (Take a from number)) (list_all (fits line to s) more) h in
+    let e : a ≡ to = number_same a to (both (nat_eq a to) _ k.0).0 in
+    rw e ((fit_admitted line to from number s (story_of line before) same act (rw e at k.0), all_admitted line to more s (Take to from number ∷ before) (same_more line to from number s (story_of line before) same) act k.1))
+all_admitted line to (Train t long error speed kind ∷ more) s before same act h = absurd cc
+all_admitted line to (Entry t step ∷ more) s before same act h = absurd cc
+all_admitted line to (Enter t ∷ more) s before same act h = absurd cc
+all_admitted line to (Ask t z steps end ∷ more) s before same act h = absurd cc
+all_admitted line to (Step ms moves ∷ more) s before same act h = absurd cc
+all_admitted line to (Report t z step offset whole ∷ more) s before same act h = absurd cc
+all_admitted line to (Time z t ∷ more) s before same act h = absurd cc
+all_admitted line to (Deliver a ∷ more) s before same act h = absurd cc
+
+eq_same : (n : ℕ) → nat_eq n n ≡ true
+eq_same n = grind (arith, nat_tests)
+
+some_lt : (n : ℕ) → 0 < n → nat_lt 0 n ≡ true
+some_lt n h = grind (arith, nat_tests)
+
+most_le : (m n : ℕ) → m ≤ n → nat_le m n ≡ true
+most_le m n h = grind (arith, nat_tests)
+
+-- takes of no more than what was sent
+takes_fit : (line : Line) (to from : ℕ) (s : Story) (k number : ℕ) → sends_to line to from ≡ true → 0 < number → k ≤ length (sent from to s) + 1 - number → list_all (fits line to s) (takes_from to from number k) ≡ true
+unfolding takes_from
+takes_fit line to from s zero number h some few = refl
+takes_fit line to from s (suc k) number h some few =
+    let le : number ≤ length (sent from to s) = omega (arith, few) in
+    rw (eq_same to, h, some_lt number some, most_le number (length (sent from to s)) le)
+    (takes_fit line to from s k (number + 1) h (omega arith) (omega (arith, few)))
+
+due_fits : (line : Line) (to from : ℕ) (s : Story) → sends_to line to from ≡ true → list_all (fits line to s) (due to s from) ≡ true
+due_fits line to from s h = takes_fit line to from s (length (sent from to s) - taken_most to from s) (taken_most to from s + 1) h (omega arith) (omega arith)
+
+delivered_fit : (line : Line) (to : ℕ) (s : Story) (senders : List ℕ) → list_all (fits line to s) (flat_map (due to s) (filter (sends_to line to) senders)) ≡ true
+delivered_fit line to s [] = refl
+delivered_fit line to s (from ∷ senders) = by_test (sends_to line to from)
+    (λ y. rw y (list_all-append (fits line to s) (due to s from) (flat_map (due to s) (filter (sends_to line to) senders)) ∙ all (list_all (fits line to s) (due to s from)) _ (due_fits line to from s y) (delivered_fit line to s senders)))
+    (λ n. rw n (delivered_fit line to s senders))
+
+pub delivery_admitted : (line : Line) (before : List Event) (s : Story) (to : ℕ) → s ≡ story_of line before → is_actor line to ≡ true → AllAdmitted line before (deliveries line s to)
+delivery_admitted line before s to is act =
+    all_admitted line to (deliveries line s to) s before (λ from h. ap (sent from to) (sym is)) act (delivered_fit line to s actors)
+
+one_admitted : (line : Line) (before : List Event) (s : Story) (e : Event) → s ≡ story_of line before → admits line s e ≡ true → AllAdmitted line before (e ∷ [])
+unfolding AllAdmitted
+one_admitted line before s e is h = (ap (λ x. admits line x e) (sym is) ∙ h, tt)
+
+-- what an event of a script stands for is admitted where the event is
+pub stands_admitted : (line : Line) (before : List Event) (s : Story) (e : Event) → s ≡ story_of line before → admits line s e ≡ true → AllAdmitted line before (stands_for line s e)
+stands_admitted line before s (Train t long error speed kind) is h = one_admitted line before s (Train t long error speed kind) is h
+stands_admitted line before s (Entry t step) is h = one_admitted line before s (Entry t step) is h
+stands_admitted line before s (Enter t) is h = one_admitted line before s (Enter t) is h
+stands_admitted line before s (Ask t z steps end) is h = one_admitted line before s (Ask t z steps end) is h
+stands_admitted line before s (Step ms moves) is h = one_admitted line before s (Step ms moves) is h
+stands_admitted line before s (Report t z step offset whole) is h = one_admitted line before s (Report t z step offset whole) is h
+stands_admitted line before s (Time z t) is h = one_admitted line before s (Time z t) is h
+stands_admitted line before s (Take to from number) is h = one_admitted line before s (Take to from number) is h
+stands_admitted line before s (Deliver to) is h = delivery_admitted line before s to is (both (is_actor line to) _ h).0

@@ -1,0 +1,118 @@
+-- The ends of the possible fronts as numbers, and what a message that the zone takes makes of them.
+use Rattle.std.proofs.Common.{◌≡◌, ℕ, ◌+◌, ◌-◌, ◌≤◌, min, take, Bool, true, false, ap, arith}
+use Rattle.std.specs.Prelude.{ℤ, pos, ◌+ℤ◌}
+use Rattle.track_points.specs.declared.ids.TrainId.{TrainId}
+use Rattle.track_points.specs.Points.{total}
+use Rattle.envelope.specs.declared.fronts.Fronts.{Fronts}
+use Rattle.envelope.specs.Fronts.{farthest_move}
+use Rattle.envelope.proofs.Ranges.{IsRange}
+use Rattle.definitions.specs.declared.message.Msg.{Msg}
+use Rattle.definitions.specs.declared.message.Msg.TheVariants as msg
+use Rattle.definitions.specs.Track.{Line, seg_len}
+use Rattle.definitions.specs.Numbers.{first, last}
+use Rattle.definitions.specs.Story.{Story}
+use Rattle.definitions.specs.Control.{known_facts, now_of, now_with}
+use Rattle.definitions.specs.Longest.{longest_end, longest_route}
+use Rattle.definitions.specs.Fronts.{possible_front, grown_fronts, fronts_behind, reported, rear_of, is_used, least_rear, greatest_front}
+use Rattle.plain_state.specs.Plain.{zone_id}
+use Rattle.plain_state.specs.Zone.{least_kept, greatest_kept, narrowed}
+use Rattle.sound_laws.proofs.Sound.{FrontsAre}
+use Rattle.front_laws.proofs.Front_ranges.{range_first, range_last, range_grown, range_narrowed}
+
+-- fronts of a train, as a test, with these ends: a range, its first and its last number, and the rear at the first
+pub record Numbered (line : Line) (t : ℕ) (s : Story) (test : ℕ → Bool) (lo hi : ℕ) : Type 0 where
+  pub is : IsRange test lo hi
+  pub ordered : lo ≤ hi
+  pub within : hi ≤ longest_end line t s
+  pub least : first test (longest_end line t s + 1) ≡ lo
+  pub greatest : last test (longest_end line t s + 1) ≡ hi
+  pub rear : rear_of line (zone_id line) t s test ≡ lo - (known_facts (zone_id line) t s).long
+
+pub numbered : (line : Line) (t : ℕ) (s : Story) (test : ℕ → Bool) (lo hi : ℕ) → IsRange test lo hi → lo ≤ hi → hi ≤ longest_end line t s → Numbered line t s test lo hi
+numbered line t s test lo hi r o h =
+    let f = range_first test lo hi (longest_end line t s + 1) r o (omega (arith, h)) in
+    record {
+      is = r;
+      ordered = o;
+      within = h;
+      least = f;
+      greatest = range_last test lo hi (longest_end line t s + 1) r o (omega (arith, h));
+      rear = ap (λ (n : ℕ). n - (known_facts (zone_id line) t s).long) f;
+    }
+
+-- so that the least rear is the least less the length, and the greatest front the greatest
+pub fronts_numbers : (line : Line) (t : ℕ) (s : Story) (f : FrontsAre line t s) → Numbered line t s (possible_front line (zone_id line) t s) f.lo f.hi
+fronts_numbers line t s f = numbered line t s (possible_front line (zone_id line) t s) f.lo f.hi (record { is = f.is }) f.ordered f.within
+
+pub least_rear_is : (line : Line) (t : ℕ) (s : Story) (f : FrontsAre line t s) → least_rear line (zone_id line) t s ≡ f.lo - (known_facts (zone_id line) t s).long
+least_rear_is line t s f = (fronts_numbers line t s f).rear
+
+pub greatest_front_is : (line : Line) (t : ℕ) (s : Story) (f : FrontsAre line t s) → greatest_front line (zone_id line) t s ≡ f.hi
+greatest_front_is line t s f = (fronts_numbers line t s f).greatest
+
+-- Growth.
+
+-- where the greatest front may be behind a message
+abbrev pub grown_to : Line → ℕ → Story → Msg → ℕ → ℕ
+grown_to line t s m hi =
+    min (hi + farthest_move (known_facts (zone_id line) t s).speed (now_with (zone_id line) s m - now_of (zone_id line) s)) (longest_end line t s)
+
+pub fronts_grown : (line : Line) (t : ℕ) (s : Story) (m : Msg) (f : FrontsAre line t s)
+    → Numbered line t s (grown_fronts line (zone_id line) t s (possible_front line (zone_id line) t s) m) f.lo (grown_to line t s m f.hi)
+fronts_grown line t s m f =
+    let z = zone_id line in
+    let o = f.ordered in
+    let w = f.within in
+    numbered line t s (grown_fronts line z t s (possible_front line z t s) m) f.lo (grown_to line t s m f.hi)
+    (range_grown (possible_front line z t s) (record { lo = f.lo; hi = f.hi; at = 0 })
+    (farthest_move (known_facts z t s).speed (now_with z s m - now_of z s)) (longest_end line t s) (record { is = f.is }) o w)
+    (omega (arith, o, w)) (omega arith)
+
+-- a message that is no used report lets the fronts grow, and does nothing else to them
+pub fronts_unused : (line : Line) (t : ℕ) (s : Story) (m : Msg) (f : FrontsAre line t s)
+    → is_used line (zone_id line) t s (possible_front line (zone_id line) t s) m ≡ false
+    → Numbered line t s (fronts_behind line (zone_id line) t s (possible_front line (zone_id line) t s) m) f.lo (grown_to line t s m f.hi)
+fronts_unused line t s m f h = rw h (fronts_grown line t s m f)
+
+-- A used report.
+
+-- the place that a report names
+abbrev pub named_place : Line → ℕ → Story → ℕ → ℤ → ℤ
+named_place line t s mark offset = pos (total (seg_len line) (take mark (longest_route line t s))) +ℤ offset
+
+-- how far the train may have moved since a report
+abbrev pub moved_since : Line → ℕ → Story → Msg → ℕ → ℕ
+moved_since line t s m time = farthest_move (known_facts (zone_id line) t s).speed (now_with (zone_id line) s m - time)
+
+-- the ends of the fronts behind a used report, from those before the message
+abbrev pub fronts_left : Line → ℕ → Story → Msg → ℕ → ℕ → ℕ → ℕ → ℤ → Bool → Fronts
+fronts_left line t s m lo hi time mark offset integrity =
+    narrowed (record { lo = lo; hi = grown_to line t s m hi; at = now_with (zone_id line) s m })
+    (least_kept lo (named_place line t s mark offset) (known_facts (zone_id line) t s).error integrity)
+    (greatest_kept (grown_to line t s m hi) (named_place line t s mark offset) (known_facts (zone_id line) t s).error (moved_since line t s m time))
+
+pub record NarrowedTo (line : Line) (t : ℕ) (s : Story) (test : ℕ → Bool) (lo hi : ℕ) (left : Fronts) : Type 0 where
+  pub numbers : Numbered line t s test left.lo left.hi
+  pub least : lo ≤ left.lo
+  pub most : left.hi ≤ hi
+
+pub fronts_kept : (line : Line) (t : ℕ) (s : Story) (u : TrainId) (time mark : ℕ) (offset : ℤ) (integrity : Bool) (f : FrontsAre line t s)
+    → is_used line (zone_id line) t s (possible_front line (zone_id line) t s) (msg.Report u time mark offset integrity) ≡ true
+    → NarrowedTo line t s (fronts_behind line (zone_id line) t s (possible_front line (zone_id line) t s) (msg.Report u time mark offset integrity))
+    f.lo (grown_to line t s (msg.Report u time mark offset integrity) f.hi)
+    (fronts_left line t s (msg.Report u time mark offset integrity) f.lo f.hi time mark offset integrity)
+fronts_kept line t s u time mark offset integrity f h =
+    let z = zone_id line in
+    let m = msg.Report u time mark offset integrity in
+    let g = fronts_grown line t s m f in
+    let n = range_narrowed (grown_fronts line z t s (possible_front line z t s) m) (record { lo = f.lo; hi = grown_to line t s m f.hi; at = now_with z s m })
+    (named_place line t s mark offset) (known_facts z t s).error (moved_since line t s m time) integrity (longest_end line t s) g.is g.ordered g.within in
+    let left = fronts_left line t s m f.lo f.hi time mark offset integrity in
+    let a = n.least in
+    let b = n.most in
+    let w = g.within in
+    rw h (record {
+      numbers = numbered line t s (reported line z t s (grown_fronts line z t s (possible_front line z t s) m) m) left.lo left.hi n.is n.ordered (omega (arith, b, w));
+      least = a;
+      most = b;
+    })

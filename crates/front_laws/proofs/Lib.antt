@@ -1,0 +1,9 @@
+pub mod Reported
+pub mod Heads
+pub mod Reports
+pub mod Front_ranges
+pub mod Front_numbers
+pub mod Front_moves
+pub mod Front_entry
+pub mod Front_step
+pub mod Front_ends

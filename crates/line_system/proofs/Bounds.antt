@@ -1,0 +1,62 @@
+-- Times and fields of messages stay in their ranges.
+use Rattle.std.proofs.Common.{◌≡◌, ℕ, ◌*◌, ◌≤◌, List, [], ◌∷◌, length, Option, Some, true, ap, arith}
+use Rattle.std.specs.Prelude.{slice_get, is_some, nat_eq}
+use Rattle.std.proofs.lemmas.Bool.Decides.{nat_tests}
+use Rattle.definitions.specs.declared.event.Event.{Event}
+use Rattle.definitions.specs.declared.event.Event.TheVariants.{Train, Entry, Enter, Ask, Step, Report, Time, Take, Deliver}
+use Rattle.definitions.specs.declared.message.Msg.{Msg}
+use Rattle.definitions.specs.declared.message.Msg.TheVariants as msg
+use Rattle.definitions.specs.Track.{Line}
+use Rattle.definitions.specs.Story.{Story, sent}
+use Rattle.definitions.specs.World.{Facts, facts_or, facts_of, is_declared, long_of, elapsed, clock}
+use Rattle.definitions.specs.Premises.{built}
+use Rattle.definitions.specs.Steps.{effects, story_of}
+use Rattle.definitions.specs.Safe.{Kept}
+use Rattle.motion_laws.proofs.Admitted.{admitted}
+use Rattle.motion_laws.proofs.Issued.{issued_all}
+use Rattle.motion_laws.proofs.Moments.{clock_next}
+use Rattle.motion_laws.proofs.Moves.{effect_event}
+use Rattle.sound_laws.proofs.Sound.{Sound, EntryIs, RequestTrue}
+use Rattle.zone_state.specs.Zone.{InRange}
+
+elapsed_most : (line : Line) (s : Story) (e : Event) → built line s e ≡ true → elapsed e ≤ 60000
+elapsed_most line s (Train t long error speed kind) h = omega arith
+elapsed_most line s (Entry t step) h = omega arith
+elapsed_most line s (Enter t) h = omega arith
+elapsed_most line s (Ask t z steps to) h = omega arith
+elapsed_most line s (Step ms moves) h = grind (arith, nat_tests)
+elapsed_most line s (Report t z step offset whole) h = omega arith
+elapsed_most line s (Time z t) h = omega arith
+elapsed_most line s (Take to from number) h = omega arith
+elapsed_most line s (Deliver to) h = omega arith
+
+-- the clock rises by at most 60,000 ms with each event
+pub clock_most : (line : Line) (es : List Event) → Kept line es → clock (story_of line es) ≤ 60000 * length es
+unfolding story_of clock Kept
+clock_most line [] k = omega arith
+clock_most line (e ∷ es) k =
+    let i = clock_most line es k.1 in
+    let n = clock_next (effects line (story_of line es) e) (story_of line es) in
+    let same = ap elapsed (effect_event line (story_of line es) e) in
+    let most = elapsed_most line (story_of line es) e (admitted line (story_of line es) e k.0).form in
+    omega arith
+
+long_is : (t : ℕ) (s : Story) (f : Facts) → facts_of t s ≡ Some f → (is_declared t s ≡ true) × (long_of t s ≡ f.long)
+long_is t s f h = (ap (λ (x : Option Facts). is_some x) h, ap (λ (x : Option Facts). (facts_or x).long) h)
+
+self : (t : ℕ) → nat_eq t t ≡ true
+self t = grind (arith, nat_tests)
+
+-- a message that was sent has its fields in their ranges
+pub in_range : (line : Line) (s : Story) (from to k : ℕ) (m : Msg) → ((t : ℕ) → Sound line t s) → slice_get (sent from to s) k ≡ Some m → InRange m
+in_range line s from to k (msg.EntryAsk u time long error speed equipped step) sound h =
+    let true_ : RequestTrue line u.0 s (msg.EntryAsk u time long error speed equipped step) = issued_all (RequestTrue line u.0 s) from to s k (msg.EntryAsk u time long error speed equipped step) (sound u.0).authorized.requests h in
+    let is : EntryIs line u.0 s long error speed step = true_ (self u.0) in
+    let f = long_is u.0 s (record { long = long; error = error; speed = speed }) is.facts in
+    let some = (sound u.0).authorized.long_some f.0 in
+    omega arith
+in_range line s from to k (msg.Report u time mark offset integrity) sound h = tt
+in_range line s from to k (msg.Time time u) sound h = tt
+in_range line s from to k (msg.Ask u time steps limit) sound h = tt
+in_range line s from to k (msg.Answer u time number taken) sound h = tt
+in_range line s from to k (msg.Auth u number mark path) sound h = tt

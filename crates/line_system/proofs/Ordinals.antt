@@ -1,0 +1,71 @@
+-- The greatest ordinals that were taken, one event further.
+use Rattle.std.proofs.Common.{◌≡◌, ℕ, ◌≤◌, ◌∷◌, Bool, true, false, ◌&&◌, not, max, refl, sym, ap, ◌∙◌, arith, nat_eq}
+use Rattle.std.proofs.lemmas.Bool.Decides.{nat_tests}
+use Rattle.track_points.proofs.Some.{by_test}
+use Rattle.definitions.specs.declared.event.Event.{Event}
+use Rattle.definitions.specs.declared.event.Event.TheVariants.{Train, Entry, Enter, Ask, Step, Report, Time, Take, Deliver}
+use Rattle.definitions.specs.Track.{Line, is_actor}
+use Rattle.definitions.specs.Story.{Story}
+use Rattle.definitions.specs.Premises.{built}
+use Rattle.definitions.specs.Steps.{effects, taken_by, taken_most}
+use Rattle.definitions.specs.Safe.{IsLineOfOneZone}
+use Rattle.plain_state.specs.Plain.{zone_id}
+use Rattle.motion_laws.proofs.Moves.{effect_event}
+use Rattle.sound_laws.proofs.One_zone.{zone_only}
+use Rattle.document_laws.proofs.Delivered.{both}
+use Rattle.line_system.specs.State.{Taken, taken_with, taken_behind}
+
+actor_is : (line : Line) (a : ℕ) → IsLineOfOneZone line → is_actor line a ≡ true → nat_eq a 0 ≡ false → a ≡ zone_id line
+actor_is line a l act off = zone_only line a l.one (rw off at act)
+
+not_true : (b : Bool) → not b ≡ true → b ≡ false
+not_true true h = absurd cc
+not_true false h = refl
+
+-- a take goes between the world and the zone
+takes_between : (line : Line) (to from number : ℕ) (u : Taken) → IsLineOfOneZone line → 1 ≤ zone_id line → (not (nat_eq to from) && (is_actor line to && is_actor line from)) ≡ true
+    → ((taken_with to number u).by_zone ≡ max (taken_by (zone_id line) 0 (Take to from number)) u.by_zone)
+    × ((taken_with to number u).by_world ≡ max (taken_by 0 (zone_id line) (Take to from number)) u.by_world)
+takes_between line to from number u l positive h =
+    let a = both (not (nat_eq to from)) (is_actor line to && is_actor line from) h in
+    let b = both (is_actor line to) (is_actor line from) a.1 in
+    let apart = not_true (nat_eq to from) a.0 in
+    by_test (nat_eq to 0)
+    (λ world.
+    let off : nat_eq from 0 ≡ false = grind (arith, nat_tests) in
+    let zone = actor_is line from l b.1 off in
+    let not_zone : nat_eq to (zone_id line) ≡ false = grind (arith, nat_tests) in
+    let by : nat_eq from (zone_id line) ≡ true = grind (arith, nat_tests) in
+    rw (world, not_zone, by) (omega arith, refl))
+    (λ there.
+    let zone = actor_is line to l b.0 there in
+    let to_zone : nat_eq to (zone_id line) ≡ true = grind (arith, nat_tests) in
+    let from_world : nat_eq from 0 ≡ true = by_test (nat_eq from 0)
+    (λ y. y)
+    (λ n. let same = actor_is line from l b.1 n in absurd (grind (arith, nat_tests))) in
+    rw (there, to_zone, from_world) (refl, omega arith))
+
+most_next : (line : Line) (to from : ℕ) (s : Story) (e : Event) → taken_most to from (effects line s e ∷ s) ≡ max (taken_by to from e) (taken_most to from s)
+unfolding taken_most
+most_next line to from s e = ap (λ (x : Event). max (taken_by to from x) (taken_most to from s)) (effect_event line s e)
+
+none_more : (n m : ℕ) → n ≡ m → n ≡ max 0 m
+none_more n m h = omega arith
+
+-- what an event that is built makes of the ordinals
+pub taken_next : (line : Line) (s : Story) (e : Event) (u : Taken) → IsLineOfOneZone line → 1 ≤ zone_id line → built line s e ≡ true
+    → u.by_zone ≡ taken_most (zone_id line) 0 s → u.by_world ≡ taken_most 0 (zone_id line) s
+    → ((taken_behind e u).by_zone ≡ taken_most (zone_id line) 0 (effects line s e ∷ s)) × ((taken_behind e u).by_world ≡ taken_most 0 (zone_id line) (effects line s e ∷ s))
+taken_next line s (Train t long error speed kind) u l positive h zone world = (none_more _ _ zone ∙ sym (most_next line (zone_id line) 0 s (Train t long error speed kind)), none_more _ _ world ∙ sym (most_next line 0 (zone_id line) s (Train t long error speed kind)))
+taken_next line s (Entry t step) u l positive h zone world = (none_more _ _ zone ∙ sym (most_next line (zone_id line) 0 s (Entry t step)), none_more _ _ world ∙ sym (most_next line 0 (zone_id line) s (Entry t step)))
+taken_next line s (Enter t) u l positive h zone world = (none_more _ _ zone ∙ sym (most_next line (zone_id line) 0 s (Enter t)), none_more _ _ world ∙ sym (most_next line 0 (zone_id line) s (Enter t)))
+taken_next line s (Ask t z steps to) u l positive h zone world = (none_more _ _ zone ∙ sym (most_next line (zone_id line) 0 s (Ask t z steps to)), none_more _ _ world ∙ sym (most_next line 0 (zone_id line) s (Ask t z steps to)))
+taken_next line s (Step ms moves) u l positive h zone world = (none_more _ _ zone ∙ sym (most_next line (zone_id line) 0 s (Step ms moves)), none_more _ _ world ∙ sym (most_next line 0 (zone_id line) s (Step ms moves)))
+taken_next line s (Report t z step offset whole) u l positive h zone world = (none_more _ _ zone ∙ sym (most_next line (zone_id line) 0 s (Report t z step offset whole)), none_more _ _ world ∙ sym (most_next line 0 (zone_id line) s (Report t z step offset whole)))
+taken_next line s (Time z t) u l positive h zone world = (none_more _ _ zone ∙ sym (most_next line (zone_id line) 0 s (Time z t)), none_more _ _ world ∙ sym (most_next line 0 (zone_id line) s (Time z t)))
+taken_next line s (Deliver to) u l positive h zone world = (none_more _ _ zone ∙ sym (most_next line (zone_id line) 0 s (Deliver to)), none_more _ _ world ∙ sym (most_next line 0 (zone_id line) s (Deliver to)))
+taken_next line s (Take to from number) u l positive h zone world =
+    let k = takes_between line to from number u l positive h in (
+      k.0 ∙ (ap (λ (n : ℕ). max (taken_by (zone_id line) 0 (Take to from number)) n) zone ∙ sym (most_next line (zone_id line) 0 s (Take to from number))),
+      k.1 ∙ (ap (λ (n : ℕ). max (taken_by 0 (zone_id line) (Take to from number)) n) world ∙ sym (most_next line 0 (zone_id line) s (Take to from number))),
+    )

@@ -1,0 +1,244 @@
+-- The plain state follows an ask that the zone takes.
+use Rattle.std.proofs.Common.{◌≡◌, ℕ, suc, ◌+◌, ◌-◌, ◌*◌, ◌<◌, ◌≤◌, List, ◌∷◌, length, take, Option, Some, true, false, ◌&&◌, refl, sym, ◌∙◌, ap, subst, arith}
+use Rattle.std.proofs.lemmas.Bool.Decides.{nat_tests}
+use Rattle.std.proofs.lemmas.Bool.{eqb-true}
+use Rattle.std.proofs.lemmas.List.{length-append}
+use Rattle.std.proofs.Math.Bool.{and-false}
+use Rattle.std.specs.Prelude.{nat_eq, nat_le, nat_lt}
+use Rattle.arrayvec.specs.ArrayVec.{ArrayVec}
+use Rattle.track_points.specs.declared.ids.DirSeg.{DirSeg}
+use Rattle.track_points.specs.declared.ids.TrainId.{TrainId}
+use Rattle.track_points.specs.declared.path.Path.{Path}
+use Rattle.track_points.specs.Points.{total, end_place, steps_to, no_segment_twice}
+use Rattle.track_points.proofs.Some.{by_test}
+use Rattle.definitions.specs.declared.message.Msg.{Msg}
+use Rattle.definitions.specs.declared.message.Msg.TheVariants as msg
+use Rattle.definitions.specs.declared.outcome.Outcome.{Outcome}
+use Rattle.definitions.specs.Track.{Line, seg_len, track_from}
+use Rattle.definitions.specs.Ways.{PlainWay, chained, path_in_range, way_between}
+use Rattle.definitions.specs.Story.{Entry as Made, Story, greatest_in, greatest_issued}
+use Rattle.definitions.specs.World.{Authority, Facts, first_entry, auth_number}
+use Rattle.definitions.specs.Control.{grants_entry, controls, known_facts, now_of, now_with, counted, last_issued}
+use Rattle.definitions.specs.Longest.{longest_end, longest_route}
+use Rattle.definitions.specs.Fronts.{report_time, silent_by}
+use Rattle.definitions.specs.Limit.{Reach, further, asked_way, path_of, reach_from, barring, limit}
+use Rattle.definitions.specs.Steps.{Effect, grant, path_to}
+use Rattle.definitions.specs.Safe.{IsLineOfOneZone}
+use Rattle.plain_state.specs.ZoneTrain.{ZoneTrain}
+use Rattle.plain_state.specs.Zone.{find_way, change_way, lengthened, grown_train}
+use Rattle.plain_state.specs.Plain.{Plain, zone_id}
+use Rattle.plain_state.specs.Relation.{zone_train, Linked}
+use Rattle.motion_laws.proofs.Notions.{both}
+use Rattle.motion_laws.proofs.Issued.{AllIn, AllIssued}
+use Rattle.way_laws.proofs.Reach.{reach_granted}
+use Rattle.way_laws.proofs.Grown.{grown_end}
+use Rattle.way_laws.proofs.Track.{track_front}
+use Rattle.way_laws.proofs.Between_places.{between_some, between_ends, between_end, between_within}
+use Rattle.way_laws.proofs.Between_moved.{between_before}
+use Rattle.sound_laws.proofs.Sound.{track, mark_place, track_end, most_to, path_fits, AuthIs, Sound}
+use Rattle.front_laws.proofs.Front_moves.{known_same}
+use Rattle.front_laws.proofs.Front_numbers.{grown_to}
+use Rattle.front_laws.proofs.Front_ends.{ends_grown}
+use Rattle.link_laws.proofs.World_trains.{mapped}
+use Rattle.link_laws.proofs.Zone_trains.{way_change, way_other, ids_change, distinct_change}
+use Rattle.link_laws.proofs.Zone_values.{Grown}
+use Rattle.link_laws.proofs.Way_of.{way_of}
+use Rattle.link_laws.proofs.Way_marks.{way_number}
+use Rattle.link_laws.proofs.Heeded.{way_steps}
+use Rattle.link_laws.proofs.Kept_train.{kept_train}
+use Rattle.link_laws.proofs.Longer.{kept_lengthened, route_reaches, route_kept, route_steps}
+use Rattle.link_laws.proofs.Unissued.{NoAuth, end_same, controls_same, counted_none}
+use Rattle.link_laws.proofs.Zone_idle.{first_same}
+use Rattle.link_laws.proofs.Zone_moves.{zone_made, ZoneMoves}
+use Rattle.link_laws.proofs.Zone_behind.{grown_is, now_is, acts, controlled_still, report_unused, steps_same, zone_silent}
+use Rattle.link_laws.proofs.Quiet_linked.{known_still}
+
+module _ (line : Line) (z number : ℕ) (u : TrainId) (time : ℕ) (steps : ArrayVec DirSeg) (to : ℕ) (s : Story) (one : IsLineOfOneZone line) (zone : suc z ≡ zone_id line) (sound : (t : ℕ) → Sound line t s)
+    (lines : List Outcome) where
+  abbrev pub ask_message : Msg
+  ask_message = msg.Ask u time steps to
+
+  abbrev t : ℕ
+  t = u.0
+
+  abbrev len : ℕ → ℕ
+  len = seg_len line
+
+  abbrev pub asked_reach : Reach
+  asked_reach = limit line (zone_id line) u.0 s (now_with (zone_id line) s (msg.Ask u time steps to)) steps.items to
+
+  abbrev d : ℕ
+  d = asked_reach.distance
+
+  -- a granted one, of a controlled train
+  module _ (c : controls (zone_id line) u.0 s ≡ true) where
+    abbrev lo : ℕ
+    lo = ((sound t).fronts c).lo
+
+    abbrev f : Facts
+    f = known_facts (zone_id line) t s
+
+    abbrev w : PlainWay
+    w = way_between (seg_len line) (longest_route line t s) (lo - f.long) (longest_end line t s)
+
+    abbrev pub given : Effect
+    given = record {
+      issued = (grant (seg_len line) (zone_id line) u (last_issued u.0 s + 1) w.mark w.path.from (asked_way w.path.steps.items steps.items) (end_place (seg_len line) w.path + d) asked_reach).issued;
+      lines = lines;
+    }
+
+    abbrev a : Authority
+    a = record { mark = w.mark; path = path_to (seg_len line) w.path.from (asked_way w.path.steps.items steps.items) (end_place (seg_len line) w.path + d) }
+
+    abbrev x : Made
+    x = zone_made z number ask_message given
+
+    abbrev route : List DirSeg
+    route = track line t (x ∷ s) (a.mark + length a.path.steps.items)
+
+    order : lo - f.long < longest_end line u.0 s
+    order =
+        let v = way_of line t s one.valid (sound t) c in
+        let p = v.order in
+        let q = v.ordered in
+        let r = v.within in
+        omega (arith, p, q, r)
+
+    room : longest_end line u.0 s ≤ total (seg_len line) (longest_route line u.0 s)
+    room = (way_of line t s one.valid (sound t) c).room
+
+    asked_some : 0 < length (asked_way w.path.steps.items steps.items)
+    asked_some =
+        let p = between_some len (longest_route line t s) (lo - f.long) (longest_end line t s) order room in
+        let l = length-append w.path.steps.items (further w.path.steps.items steps.items) in
+        omega (arith, p, l)
+
+    asked_within : end_place (seg_len line) w.path + d ≤ total (seg_len line) (asked_way w.path.steps.items steps.items)
+    asked_within =
+        let p = between_some len (longest_route line t s) (lo - f.long) (longest_end line t s) order room in
+        let e = between_ends len (longest_route line t s) (lo - f.long) (longest_end line t s) order room in
+        let b = between_within len (longest_route line t s) (lo - f.long) (longest_end line t s) order room in
+        let z0 = zone_id line in
+        let v = way_of line t s one.valid (sound t) c in
+        let reach = reach_granted line (controls z0 t s && nat_lt 0 (counted t s)) (silent_by line (report_time line z0 t s) (now_with z0 s ask_message)) w.path steps.items to (barring line z0 t s) p (omega (arith, e, b)) in
+        let is : limit line z0 t s (now_with z0 s ask_message) steps.items to ≡ reach_from line (controls z0 t s && nat_lt 0 (counted t s)) (silent_by line (report_time line z0 t s) (now_with z0 s ask_message)) (Some w.path) steps.items to (barring line z0 t s) =
+        ap (λ (o : Option PlainWay). reach_from line (controls z0 t s && nat_lt 0 (counted t s)) (silent_by line (report_time line z0 t s) (now_with z0 s ask_message)) (path_of o) steps.items to (barring line z0 t s)) v.is in
+        subst (λ (r : Reach). end_place len w.path + r.distance ≤ total len (asked_way w.path.steps.items steps.items)) (sym is) reach
+
+    none : grants_entry (zone_id line) u.0 (zone_made z number ask_message given) ≡ false
+    none = and-false (nat_eq (suc z) (zone_id line))
+
+    given_last : last_issued u.0 (zone_made z number ask_message given ∷ s) ≡ last_issued u.0 s + 1
+    unfolding greatest_in greatest_issued
+    given_last = let its : nat_eq u.0 u.0 ≡ true = grind (arith, nat_tests) in rw its (omega arith)
+
+    other_silent : (v : ℕ) → nat_eq u.0 v ≡ false → NoAuth v given.issued
+    unfolding AllIn
+    other_silent v o = (o, tt)
+
+    given_few : (v : ℕ) → greatest_in (auth_number v) given.issued ≤ last_issued v s + 1
+    unfolding greatest_in
+    given_few v = by_test (nat_eq u.0 v)
+        (λ b. let same : u.0 ≡ v = eqb-true u.0 v b in rw (b, same) (omega arith))
+        (λ b. rw b (omega arith))
+
+    module _ (after : Sound line u.0 (zone_made z number ask_message given ∷ s)) where
+      c2 : controls (zone_id line) u.0 (zone_made z number ask_message given ∷ s) ≡ true
+      c2 = controlled_still line z number ask_message given s one zone t (sound t) after c none
+
+      given_is : AuthIs line u.0 (zone_made z number ask_message given ∷ s) (last_issued u.0 s + 1) a
+      unfolding AllIn AllIssued
+      given_is = after.authorized.auths.0.0 (let its : nat_eq u.0 u.0 ≡ true = grind (arith, nat_tests) in its)
+
+      -- the longest authority ends where it does
+      given_end : longest_end line u.0 (zone_made z number ask_message given ∷ s) ≡ track_end line u.0 (zone_made z number ask_message given ∷ s) a
+      given_end = (after.authorized.controlled c2).end ∙ (ap (λ (n : ℕ). most_to line t (x ∷ s) n) given_last ∙ sym given_is.exact)
+
+      first : first_entry u.0 (zone_made z number ask_message given ∷ s) ≡ first_entry u.0 s
+      first = first_same line t x s (sound t) c
+
+      mark_begins : mark_place line u.0 (zone_made z number ask_message given ∷ s) w.mark ≡ total (seg_len line) (take w.mark (longest_route line u.0 s))
+      mark_begins =
+          let v = way_of line t s one.valid (sound t) c in
+          ap (λ (o : Option DirSeg). total len (track_from line o w.mark)) first
+          ∙ sym (ap (total len) (between_before line (first_entry t s) len (longest_route line t s) v.front (lo - f.long) (longest_end line t s) order room))
+
+      given_farther : longest_end line u.0 (zone_made z number ask_message given ∷ s) ≡ longest_end line u.0 s + d
+      given_farther =
+          let g = grown_end len w.path (further w.path.steps.items steps.items) d asked_within in
+          let m = mark_begins in
+          let e = given_end in
+          let b = between_end len (longest_route line t s) (lo - f.long) (longest_end line t s) order room in
+          omega (arith, g, m, e, b)
+
+      abbrev hi : ℕ
+      hi = grown_to line t s ask_message ((sound t).fronts c).hi
+
+      pub ask_own : zone_train line u.0 (zone_made z number ask_message given ∷ s) ≡ mapped (lengthened (seg_len line) steps.items d) (mapped (grown_train (now_with (zone_id line) s ask_message)) (zone_train line u.0 s))
+      ask_own =
+          let v = way_of line t s one.valid (sound t) c in
+          let here = acts line z number ask_message given s one zone t (sound t) after in
+          let ends = ends_grown line t x s ((sound t).fronts c) (after.fronts c2) none 0 ask_message c here refl refl in
+          let reaches = route_reaches line t (x ∷ s) one.valid after c2 a given_is.authority given_end in
+          let far = given_farther in
+          let rep = report_unused line (zone_id line) t x s none refl in
+          let cnt = counted_none t x s refl in
+          route_kept line t (x ∷ s) one.valid after c2 a given_is.authority given_end
+          ∙ (ap (λ (q : Facts). Some (kept_train len t q route (after.fronts c2).lo (after.fronts c2).hi (longest_end line t (x ∷ s)) (now_of (zone_id line) (x ∷ s)) (report_time line (zone_id line) t (x ∷ s)) (last_issued t (x ∷ s)) (counted t (x ∷ s)))) (known_same (zone_id line) t x s none)
+          ∙ (ap (λ (q : ℕ). Some (kept_train len t f route q (after.fronts c2).hi (longest_end line t (x ∷ s)) (now_of (zone_id line) (x ∷ s)) (report_time line (zone_id line) t (x ∷ s)) (last_issued t (x ∷ s)) (counted t (x ∷ s)))) ends.0
+          ∙ (ap (λ (q : ℕ). Some (kept_train len t f route lo q (longest_end line t (x ∷ s)) (now_of (zone_id line) (x ∷ s)) (report_time line (zone_id line) t (x ∷ s)) (last_issued t (x ∷ s)) (counted t (x ∷ s)))) ends.1
+          ∙ (ap (λ (q : ℕ). Some (kept_train len t f route lo hi q (now_of (zone_id line) (x ∷ s)) (report_time line (zone_id line) t (x ∷ s)) (last_issued t (x ∷ s)) (counted t (x ∷ s)))) far
+          ∙ (ap (λ (q : ℕ). Some (kept_train len t f route lo hi (longest_end line t s + d) q (report_time line (zone_id line) t (x ∷ s)) (last_issued t (x ∷ s)) (counted t (x ∷ s)))) (now_is line z number ask_message given s one zone t (sound t) after)
+          ∙ (ap (λ (q : ℕ). Some (kept_train len t f route lo hi (longest_end line t s + d) (now_with (zone_id line) s ask_message) q (last_issued t (x ∷ s)) (counted t (x ∷ s)))) rep
+          ∙ (ap (λ (q : ℕ). Some (kept_train len t f route lo hi (longest_end line t s + d) (now_with (zone_id line) s ask_message) (report_time line (zone_id line) t s) q (counted t (x ∷ s)))) given_last
+          ∙ (ap (λ (q : ℕ). Some (kept_train len t f route lo hi (longest_end line t s + d) (now_with (zone_id line) s ask_message) (report_time line (zone_id line) t s) (last_issued t s + 1) q)) cnt
+          ∙ (ap (λ (q : ZoneTrain). Some q) (kept_lengthened line (first_entry t s) len steps.items t f (longest_route line t s) route lo hi (longest_end line t s) d (now_with (zone_id line) s ask_message) (report_time line (zone_id line) t s) (last_issued t s) (counted t s)
+          v.front (route_front route_is) order room (omega (arith, reaches, far)) (sym given_is.authority.on_track) asked_some asked_within)
+          ∙ sym (ap (λ (q : Option ZoneTrain). mapped (lengthened len steps.items d) q) (grown_is line ask_message s t one (sound t) c)))))))))))
+        where
+          route_is : route ≡ track_from line (first_entry t s) (a.mark + length a.path.steps.items)
+          route_is = ap (λ (o : Option DirSeg). track_from line o (a.mark + length a.path.steps.items)) first
+
+          route_front : route ≡ track_from line (first_entry t s) (a.mark + length a.path.steps.items) → route ≡ track_from line (first_entry t s) (length route)
+          route_front e = subst (λ (o : Option DirSeg). route ≡ track_from line o (length route)) first (track_front line (first_entry t (x ∷ s)) (a.mark + length a.path.steps.items))
+
+      pub ask_steps : (p : Plain) → Linked line s p → length (steps_to (seg_len line) (longest_route line u.0 (zone_made z number ask_message given ∷ s)) (longest_end line u.0 (zone_made z number ask_message given ∷ s))) ≤ 24 * length s + 24
+      ask_steps p k =
+          let r = route_steps line t (x ∷ s) one.valid after c2 a given_is.authority given_end in
+          let n = way_number len (longest_route line t s) (lo - f.long) (longest_end line t s) order room in
+          let m = way_steps line s p one k sound t c in
+          let few = path_few a.path given_is.authority.fits in
+          omega (arith, r, n, m, few)
+        where
+          path_few : (q : Path) → path_fits line q ≡ true → length q.steps.items ≤ 24
+          path_few q h =
+              let b = both (chained line q.steps.items) (no_segment_twice q.steps.items && (path_in_range (seg_len line) q && nat_le (length q.steps.items) 24)) h in
+              let e = both (no_segment_twice q.steps.items) (path_in_range (seg_len line) q && nat_le (length q.steps.items) 24) b.1 in
+              let g = both (path_in_range (seg_len line) q) (nat_le (length q.steps.items) 24) e.1 in
+              let y = g.1 in
+              grind (arith, nat_tests)
+
+    -- the trains behind it
+    pub ask_moves : ((v : ℕ) → Sound line v (zone_made z number ask_message given ∷ s)) → (p : Plain) (ways : List ZoneTrain) → Linked line s p → Grown line s (now_with (zone_id line) s ask_message) ways
+        → ZoneMoves line s (zone_made z number ask_message given) (change_way u.0 (lengthened (seg_len line) steps.items d) ways)
+    ask_moves after p ways k g =
+        record {
+          found = λ v. by_test (nat_eq u.0 v)
+              (λ its. subst (λ (i : ℕ). find_way i (change_way u.0 (lengthened len steps.items d) ways) ≡ zone_train line i (x ∷ s)) (eqb-true u.0 v its)
+              (way_change u.0 (lengthened len steps.items d) ways (λ y. refl) ∙ (ap (λ (y : Option ZoneTrain). mapped (lengthened len steps.items d) y) (g.found u.0) ∙ sym (ask_own (after u.0)))))
+              (λ o. way_other v u.0 (lengthened len steps.items d) ways (λ y. refl) o
+              ∙ (g.found v ∙ sym (zone_silent line z number ask_message given s one zone v (sound v) (after v) (other_silent v o) (and-false (nat_eq (suc z) (zone_id line))) refl refl)));
+          known = ids_change u.0 (lengthened len steps.items d) ways (λ y. refl) ∙ (g.known ∙ sym (known_still (zone_id line) x s (and-false (nat_eq (suc z) (zone_id line)))));
+          distinct = distinct_change u.0 (lengthened len steps.items d) ways (λ y. refl) g.distinct;
+          few = given_few;
+          steps = λ v c3. by_test (nat_eq u.0 v)
+              (λ its. subst (λ (i : ℕ). length (steps_to (seg_len line) (longest_route line i (x ∷ s)) (longest_end line i (x ∷ s))) ≤ 24 * length (x ∷ s)) (eqb-true u.0 v its)
+              (let b = ask_steps (after u.0) p k in omega (arith, b)))
+              (λ o.
+              let none_v = and-false (nat_eq (suc z) (zone_id line)) in
+              let cv = sym (controls_same (zone_id line) v x s none_v) ∙ c3 in
+              let e = end_same line v x s (other_silent v o) (sound v) (after v) cv c3 (first_same line v x s (sound v) cv) in
+              let b = steps_same line v x s one (sound v) (after v) cv c3 e in
+              let q = way_steps line s p one k sound v cv in
+              omega (arith, b, q));
+        }

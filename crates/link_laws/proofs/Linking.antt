@@ -1,0 +1,200 @@
+-- The plain state follows the story, event by event.
+use Rattle.std.proofs.Common.{◌≡◌, ℕ, zero, suc, ◌-◌, ◌<◌, List, [], ◌∷◌, length, Option, Some, None, Bool, true, false, ◌&&◌, refl, sym, ◌∙◌, ap, subst, arith, not, if◌then◌else◌}
+use Rattle.std.proofs.lemmas.Bool.Decides.{nat_tests}
+use Rattle.std.proofs.lemmas.Option.{slice_get-get_or}
+use Rattle.std.specs.Prelude.{nat_eq, nat_lt, nat_le, slice_get, is_some}
+use Rattle.std.specs.List.{list_all}
+use Rattle.track_points.proofs.Some.{by_test}
+use Rattle.definitions.specs.declared.event.Event.{Event}
+use Rattle.definitions.specs.declared.event.Event.TheVariants.{Train, Entry, Enter, Ask, Step, Report, Time, Take, Deliver}
+use Rattle.definitions.specs.declared.message.Msg.{Msg}
+use Rattle.definitions.specs.declared.message.Msg.TheVariants as msg
+use Rattle.definitions.specs.Track.{Line, ranged, seg_len, zone_of, begins_at_portal, is_actor, last_step}
+use Rattle.definitions.specs.Premises.{ascending, known_train, off_by, head_offset, takes_rightly}
+use Rattle.definitions.specs.Story.{Entry as Made, Story, sent, ever, ever_issued, first_told, greatest_issued}
+use Rattle.definitions.specs.World.{Facts, facts_of, is_declared, error_of, entered, entry_authority, last_number, clock, journey, trains, head, limit_held}
+use Rattle.definitions.specs.Control.{grants_entry, controls, known_trains, now_of}
+use Rattle.definitions.specs.Longest.{longest_of}
+use Rattle.definitions.specs.Fronts.{possible_front}
+use Rattle.definitions.specs.Steps.{Effect, nothing, entering, requesting, telling, sender_of, taking_auth, world_takes, zone_step, taking, message, effects}
+use Rattle.definitions.specs.Safe.{IsLineOfOneZone}
+use Rattle.track_points.specs.Points.{step_eq}
+use Rattle.plain_state.specs.declared.Head.{Head}
+use Rattle.plain_state.specs.World.{PlainWorld, find_train, head_found, on_found, auth_answer, trains_after, world_take_effect, mark_of}
+use Rattle.plain_state.specs.Zone.{find_way}
+use Rattle.plain_state.specs.Plain.{Plain, plain_start, zone_id, by_world as world_next, taken_effect, taken_next, plain_effect, plain_next}
+use Rattle.plain_state.specs.Relation.{head_of, ids, Distinct, Linked}
+use Rattle.motion_laws.proofs.Notions.{both, not_true}
+use Rattle.motion_laws.proofs.Issued.{AllIn}
+use Rattle.motion_laws.proofs.Admitted.{Admitted}
+use Rattle.motion_laws.proofs.Motion.{Timed}
+use Rattle.sound_laws.proofs.Sound.{Sound}
+use Rattle.front_laws.proofs.Front_moves.{grant_takes}
+use Rattle.link_laws.proofs.One_zone.{actor_zone, world_sent}
+use Rattle.link_laws.proofs.Values.{facts_is, authority_is, head_is, on_is, number_is}
+use Rattle.link_laws.proofs.Admitting.{link_now}
+use Rattle.link_laws.proofs.Heeded.{world_heeded, zone_heeded}
+use Rattle.link_laws.proofs.World_linked.{train_linked, entry_linked}
+use Rattle.link_laws.proofs.World_steps.{enter_linked, still_linked, step_linked}
+use Rattle.link_laws.proofs.Auth_linked.{take_made, world_take_linked}
+use Rattle.link_laws.proofs.Zone_moves.{zone_made}
+use Rattle.link_laws.proofs.Zone_linked.{zone_taken, zone_take_linked}
+
+abbrev pub effect_of : Made → Effect
+effect_of x = record { issued = x.issued; lines = x.lines }
+
+some_message : (xs : List Msg) (number : ℕ) → (nat_lt 0 number && nat_le number (length xs)) ≡ true → slice_get xs (number - 1) ≡ None → ⊥
+some_message xs number h none =
+    let k = both (nat_lt 0 number) (nat_le number (length xs)) h in
+    let below : number - 1 < length xs = grind (arith, nat_tests, k.0, k.1) in
+    let e = slice_get-get_or xs (number - 1) (msg.Answer (record { 0 = 0 }) 0 0 true) below in
+    cc
+
+module _ (line : Line) (s : Story) (p : Plain) (one : IsLineOfOneZone line) (short : length s < 100000000) (k : Linked line s p) (sound : (t : ℕ) → Sound line t s) where
+  -- A take of a message that its link holds.
+
+  world_takes_now : (from : ℕ) (m : Msg) → world_takes s from m ≡ auth_answer p.world.clock p.world.trains from m
+  world_takes_now from (msg.Auth u number mark path) =
+      ap (λ (ms : ℕ). taking_auth ms (entered u.0 s) (last_number u.0 s) u from number) (sym k.time)
+      ∙ (ap (λ (b : Bool). taking_auth p.world.clock b (last_number u.0 s) u from number) (sym (on_is line s p k sound u.0))
+      ∙ ap (λ (n : ℕ). taking_auth p.world.clock (on_found (find_train u.0 p.world.trains)) n u from number) (sym (number_is line s p k sound u.0)))
+  world_takes_now from (msg.EntryAsk u time long error speed equipped step) = refl
+  world_takes_now from (msg.Ask u time steps to) = refl
+  world_takes_now from (msg.Report u time mark offset integrity) = refl
+  world_takes_now from (msg.Time time u) = refl
+  world_takes_now from (msg.Answer u time number taken) = refl
+
+  world_taken : (from j : ℕ) (m : Msg) → slice_get (sent from 0 s) j ≡ Some m → world_takes s from m ≡ world_take_effect line p.world from m
+  world_taken from j m is =
+      world_takes_now from m ∙ sym (ap (λ (b : Bool). if b then auth_answer p.world.clock p.world.trains from m else nothing) (world_heeded line s p one k sound short from 0 j m is))
+
+  -- what an event comes to and what is behind it
+  record Follows (to from number : ℕ) (r : Option Msg) : Type 0 where
+    effect : effect_of (taking line s (Take to from number) to from r) ≡ taken_effect line p to from r
+    linked : Linked line (taking line s (Take to from number) to from r ∷ s) (taken_next line p to from r)
+
+  zone_follows : (z number : ℕ) (m : Msg) → suc z ≡ zone_id line → message 0 (suc z) number s ≡ Some m → ((t : ℕ) → Sound line t (zone_made z number m (zone_step line (suc z) s m) ∷ s)) → Follows (suc z) 0 number (Some m)
+  zone_follows z number m zone is after =
+      let heeds = zone_heeded line s p one k sound short 0 (suc z) (number - 1) m is in
+      let later : (t : ℕ) → Sound line t (zone_made z number m (zone_step line (zone_id line) s m) ∷ s) = λ t. subst (λ (n : ℕ). Sound line t (zone_made z number m (zone_step line n s m) ∷ s)) zone (after t) in
+      let grants : (t : ℕ) → controls (zone_id line) t s ≡ true → grants_entry (zone_id line) t (zone_made z number m (zone_step line (zone_id line) s m)) ≡ false = λ t c.
+      by_test (grants_entry (zone_id line) t (zone_made z number m (zone_step line (zone_id line) s m)))
+      (λ y.
+      let back = subst (λ (n : ℕ). grants_entry (zone_id line) t (zone_made z number m (zone_step line n s m)) ≡ true) (sym zone) y in
+      let all = subst (λ (r : Option Msg). grants_entry (zone_id line) t (taking line s (Take (suc z) 0 number) (suc z) 0 r) ≡ true) (sym is) back in
+      let fresh = (grant_takes line s (Take (suc z) 0 number) (zone_id line) t all).0 in
+      absurd (let x : true ≡ false = sym c ∙ fresh in cc))
+      (λ n. n) in
+      record {
+        effect = ap (λ (n : ℕ). zone_step line n s m) zone ∙ zone_taken line z number m s p one zone k sound later grants heeds;
+        linked = subst (λ (n : ℕ). Linked line (zone_made z number m (zone_step line n s m) ∷ s) (taken_next line p (suc z) 0 (Some m))) (sym zone) (zone_take_linked line z number m s p one zone k sound later grants heeds);
+      }
+
+  world_follows : (from number : ℕ) (m : Msg) → message from 0 number s ≡ Some m → ((t : ℕ) → Sound line t (take_made 0 from number m (world_takes s from m) ∷ s)) → Follows 0 from number (Some m)
+  world_follows from number m is after =
+      let y = world_taken from (number - 1) m is in
+      let heeds = world_heeded line s p one k sound short from 0 (number - 1) m is in
+      record {
+        effect = y;
+        linked = subst (λ (w : PlainWorld). Linked line (take_made 0 from number m (world_takes s from m) ∷ s) (world_next p w (world_take_effect line p.world from m)))
+            (sym (ap (λ (c : Bool). if c then record { clock = p.world.clock; trains = trains_after (seg_len line) p.world.trains from m } else p.world) heeds))
+            (world_take_linked line from number (number - 1) m s p (world_take_effect line p.world from m) is one k sound after (sym y));
+      }
+
+  take_follows : (to from number : ℕ) (r : Option Msg) → nat_eq to from ≡ false → is_actor line to ≡ true → is_actor line from ≡ true → takes_rightly s (Take to from number) ≡ true → message from to number s ≡ r
+      → ((t : ℕ) → Sound line t (taking line s (Take to from number) to from r ∷ s)) → Follows to from number r
+  take_follows to from number None other a b right is after = absurd (some_message (sent from to s) number right is)
+  take_follows zero from number (Some m) other a b right is after = world_follows from number m is after
+  take_follows (suc z) from number (Some m) other a b right is after =
+      by_first from (world_sent line z from one other a b) is after
+    where
+      by_first : (from_ : ℕ) → from_ ≡ 0 → message from_ (suc z) number s ≡ Some m → ((t : ℕ) → Sound line t (taking line s (Take (suc z) from_ number) (suc z) from_ (Some m) ∷ s)) → Follows (suc z) from_ number (Some m)
+      by_first zero e i q = zone_follows z number m (actor_zone line z one a) i q
+      by_first (suc y) e i q = absurd (omega (arith, e))
+
+  taken_follows : (to from number : ℕ) → Admitted line s (Take to from number) → ((t : ℕ) → Sound line t (effects line s (Take to from number) ∷ s)) → Follows to from number (message from to number s)
+  taken_follows to from number a after =
+      let f = both (not (nat_eq to from)) (is_actor line to && is_actor line from) a.form in
+      let g = both (is_actor line to) (is_actor line from) f.1 in
+      take_follows to from number (message from to number s) (not_true (nat_eq to from) f.0) g.0 g.1 a.taking refl after
+
+  -- What an event comes to.
+
+  mark_now : (t : ℕ) → entered t s ≡ true → length (journey line t s) - 1 ≡ mark_of (head_found (find_train t p.world.trains))
+  mark_now t on =
+      let there : head_of line t s ≡ Some (record { step = last_step (journey line t s); mark = length (journey line t s) - 1; offset = head_offset line t s }) = rw on refl in
+      sym (ap (λ (h : Option Head). mark_of h) (head_is line s p k sound t ∙ there))
+
+  pub effect_now : (e : Event) → Admitted line s e → ((t : ℕ) → Sound line t (effects line s e ∷ s)) → effect_of (effects line s e) ≡ plain_effect line p e
+  effect_now (Train u long error speed kind) a after = refl
+  effect_now (Entry u step) a after =
+      ap (λ (ms : ℕ). requesting ms u step (zone_of line step.seg.0) (facts_of u.0 s)) (sym k.time) ∙ ap (λ (f : Option Facts). requesting p.world.clock u step (zone_of line step.seg.0) f) (sym (facts_is line s p k sound u.0))
+  effect_now (Enter u) a after =
+      ap (λ (ms : ℕ). entering ms u (sender_of (entry_authority u.0 s))) (sym k.time) ∙ ap (λ (o : Option ℕ). entering p.world.clock u o) (sym (authority_is line s p k sound u.0))
+  effect_now (Ask u z steps to) a after = ap (λ (ms : ℕ). telling z.0 (msg.Ask u ms steps to)) (sym k.time)
+  effect_now (Step ms moves) a after = refl
+  effect_now (Report u z step offset whole) a after =
+      let on = (both (entered u.0 s) (step_eq step (last_step (journey line u.0 s)) && off_by (error_of u.0 s) (head_offset line u.0 s) offset) a.reporting).0 in
+      ap (λ (ms : ℕ). telling z.0 (msg.Report u ms (length (journey line u.0 s) - 1) offset whole)) (sym k.time) ∙ ap (λ (n : ℕ). telling z.0 (msg.Report u p.world.clock n offset whole)) (mark_now u.0 on)
+  effect_now (Time z u) a after = ap (λ (ms : ℕ). telling z.0 (msg.Time ms u)) (sym k.time)
+  effect_now (Take to from number) a after =
+      (taken_follows to from number a after).effect ∙ ap (λ (xs : List Msg). taken_effect line p to from (slice_get xs (number - 1))) (sym (link_now line s p k sound one to from number a.form))
+  effect_now (Deliver to) a after = refl
+
+  issued_now : (e : Event) → Admitted line s e → ((t : ℕ) → Sound line t (effects line s e ∷ s)) → (plain_effect line p e).issued ≡ (effects line s e).issued
+  issued_now e a after = ap (λ (x : Effect). x.issued) (sym (effect_now e a after))
+
+  pub linked_after : (e : Event) → Admitted line s e → ((t : ℕ) → Sound line t (effects line s e ∷ s)) → Linked line (effects line s e ∷ s) (plain_next line p e)
+  unfolding AllIn
+  linked_after (Train u long error speed kind) a after =
+      let b = both (ranged 1 65535 u.0) (ranged 1 1000000 long && (nat_lt error long && (ranged 1 60000 speed && not (is_declared u.0 s)))) a.form in
+      let c = both (ranged 1 1000000 long) (nat_lt error long && (ranged 1 60000 speed && not (is_declared u.0 s))) b.1 in
+      let d = both (nat_lt error long) (ranged 1 60000 speed && not (is_declared u.0 s)) c.1 in
+      let f = both (ranged 1 60000 speed) (not (is_declared u.0 s)) d.1 in
+      train_linked line u long error speed kind s p one (not_true (is_declared u.0 s) f.1) k sound after
+  linked_after (Entry u step) a after =
+      entry_linked line (clock s) u step (zone_of line step.seg.0) (facts_of u.0 s) s p (plain_effect line p (Entry u step)) one (both (is_declared u.0 s) (begins_at_portal line step) a.form).0 k sound after (issued_now (Entry u step) a after)
+  linked_after (Enter u) a after =
+      enter_linked line (clock s) u (sender_of (entry_authority u.0 s)) s p (plain_effect line p (Enter u)) one a.form (both (is_some (entry_authority u.0 s)) (not (entered u.0 s)) a.entering).0 k sound after (issued_now (Enter u) a after)
+  linked_after (Ask u z steps to) a after =
+      still_linked line s p (effects line s (Ask u z steps to)) (plain_effect line p (Ask u z steps to)) one refl refl (λ t. record { facts = refl; entry = refl; off = refl; still = refl; taken = refl }) refl (λ t. (refl, tt)) k sound after (issued_now (Ask u z steps to) a after)
+  linked_after (Step ms moves) a after =
+      let b = both (ranged 1 60000 ms) (ascending 0 moves.items && list_all (known_train s) moves.items) a.form in
+      let c = both (ascending 0 moves.items) (list_all (known_train s) moves.items) b.1 in
+      step_linked line ms moves s p one c.0 a.stopping k sound after
+  linked_after (Report u z step offset whole) a after =
+      still_linked line s p (effects line s (Report u z step offset whole)) (plain_effect line p (Report u z step offset whole)) one refl refl (λ t. record { facts = refl; entry = refl; off = refl; still = refl; taken = refl }) refl (λ t. (refl, tt)) k sound after
+      (issued_now (Report u z step offset whole) a after)
+  linked_after (Time z u) a after =
+      still_linked line s p (effects line s (Time z u)) (plain_effect line p (Time z u)) one refl refl (λ t. record { facts = refl; entry = refl; off = refl; still = refl; taken = refl }) refl (λ t. (refl, tt)) k sound after (issued_now (Time z u) a after)
+  linked_after (Take to from number) a after =
+      subst (λ (xs : List Msg). Linked line (effects line s (Take to from number) ∷ s) (taken_next line p to from (slice_get xs (number - 1)))) (sym (link_now line s p k sound one to from number a.form))
+      (taken_follows to from number a after).linked
+  linked_after (Deliver to) a after =
+      still_linked line s p (effects line s (Deliver to)) (plain_effect line p (Deliver to)) one refl refl (λ t. record { facts = refl; entry = refl; off = refl; still = refl; taken = refl }) refl (λ t. tt) k sound after refl
+
+pub linked_step : (line : Line) (s : Story) (p : Plain) (e : Event) → IsLineOfOneZone line → length s < 100000000 → Admitted line s e → Timed s → Linked line s p
+    → ((t : ℕ) → Sound line t s) → ((t : ℕ) → Sound line t (effects line s e ∷ s)) → Linked line (effects line s e ∷ s) (plain_next line p e)
+linked_step line s p e one short a timed k sound after = linked_after line s p one short k sound e a after
+
+pub linked_start : (line : Line) → Linked line [] (plain_start (zone_id line))
+unfolding find_train find_way sent ever ever_issued first_told longest_of trains ids known_trains Distinct now_of greatest_issued possible_front clock limit_held head
+linked_start line = record {
+  time = refl;
+  trains = λ t. refl;
+  count = refl;
+  zone = refl;
+  clock = refl;
+  ways = λ t. refl;
+  fronts = λ t f x found. absurd cc;
+  holds = λ t point. refl;
+  known = refl;
+  distinct = tt;
+  to_zone = refl;
+  to_world = refl;
+  few = λ t. omega arith;
+  marks = λ t x found. absurd cc;
+  unasked = λ t d. refl;
+  stays_off = λ t d. refl;
+  authorized = λ t d. absurd cc;
+}

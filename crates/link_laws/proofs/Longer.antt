@@ -1,0 +1,150 @@
+-- A kept train whose way is lengthened, and one whose authority is issued anew.
+use Rattle.std.proofs.Common.{◌≡◌, ℕ, ◌+◌, ◌-◌, ◌<◌, ◌≤◌, List, length, drop, Option, Some, true, sym, ◌∙◌, ap, arith}
+use Rattle.std.proofs.lemmas.List.{length-append}
+use Rattle.track_points.specs.declared.ids.DirSeg.{DirSeg}
+use Rattle.track_points.specs.declared.path.Path.{Path}
+use Rattle.track_points.specs.Points.{Lengths, total, end_place, steps_to, offset_to}
+use Rattle.definitions.specs.Track.{Line, seg_len, track_from}
+use Rattle.definitions.specs.Rules.{is_line}
+use Rattle.definitions.specs.Ways.{PlainWay, way_between}
+use Rattle.definitions.specs.Story.{Story}
+use Rattle.definitions.specs.World.{Authority, Facts, first_entry}
+use Rattle.definitions.specs.Control.{controls, known_facts, now_of, counted, last_issued}
+use Rattle.definitions.specs.Longest.{longest_end, longest_route}
+use Rattle.definitions.specs.Fronts.{report_time}
+use Rattle.definitions.specs.Limit.{asked_way}
+use Rattle.definitions.specs.Steps.{path_to}
+use Rattle.plain_state.specs.ZoneTrain.{ZoneTrain}
+use Rattle.plain_state.specs.Zone.{lengthened}
+use Rattle.plain_state.specs.Plain.{zone_id}
+use Rattle.plain_state.specs.Relation.{zone_train}
+use Rattle.way_laws.proofs.Cut.{cut_front, cut_some, cut_total}
+use Rattle.way_laws.proofs.Cuts.{cut_again, offset_more}
+use Rattle.way_laws.proofs.Track.{TrackFront, track_front}
+use Rattle.way_laws.proofs.Route.{fronts_cut}
+use Rattle.way_laws.proofs.Between_places.{begin_of, between_mark, between_ends}
+use Rattle.way_laws.proofs.Between_moved.{between_before, between_same, between_longer}
+use Rattle.sound_laws.proofs.Sound.{track, track_end, AuthorityIs, Sound}
+use Rattle.front_laws.proofs.Heads.{end_on_track}
+use Rattle.link_laws.proofs.Way_of.{way_of}
+use Rattle.link_laws.proofs.Head_on.{path_some, path_number}
+use Rattle.link_laws.proofs.Kept_train.{kept_train, kept_same, zone_kept}
+
+offset_again : (len : Lengths) (steps : List DirSeg) (p : ℕ) → 0 < length steps → p ≤ total len steps → offset_to len (steps_to len steps p) p ≡ offset_to len steps p
+offset_again len steps p some h =
+    let f = cut_front len steps p in
+    let e = ap (λ (xs : List DirSeg). offset_to len xs p) f.1 in
+    sym (e ∙ offset_more len (steps_to len steps p) f.0 p (cut_some len steps p some) (cut_total len steps p h))
+
+path_again : (len : Lengths) (from : ℕ) (steps : List DirSeg) (p : ℕ) → 0 < length steps → p ≤ total len steps → path_to len from (steps_to len steps p) p ≡ path_to len from steps p
+path_again len from steps p some h =
+    ap (λ (xs : List DirSeg). path_of xs (offset_to len (steps_to len steps p) p)) (cut_again len steps p)
+    ∙ ap (λ (n : ℕ). path_of (steps_to len steps p) n) (offset_again len steps p some h)
+  where
+    path_of : List DirSeg → ℕ → Path
+    path_of xs n = record { steps = record { items = xs }; from = from; to = n }
+
+-- the way to a farther end, by the asked way
+longer_way : (len : Lengths) (steps asked : List DirSeg) (rear end d : ℕ) (w : PlainWay) → way_between len steps rear end ≡ w → rear < end → end ≤ total len steps
+    → drop w.mark steps ≡ steps_to len asked (end_place len w.path + d) → 0 < length asked → end_place len w.path + d ≤ total len asked
+    → way_between len steps rear (end + d) ≡ record { mark = w.mark; path = path_to len w.path.from asked (end_place len w.path + d); end = end_place len w.path + d }
+longer_way len steps asked rear end d w is order room items some h =
+    let e : w.end ≡ end_place len w.path = ap (λ (x : PlainWay). x.end) (sym is) ∙ (between_ends len steps rear end order room ∙ ap (λ (x : PlainWay). end_place len x.path) is) in
+    let k : end + d - end ≡ d = omega arith in
+    let p = end_place len w.path + d in
+    between_longer len steps rear end (end + d) order (omega arith)
+    ∙ (ap (λ (n : ℕ). by_way (way_between len steps rear end) n) k
+    ∙ (ap (λ (x : PlainWay). by_way x d) is
+    ∙ (ap (λ (n : ℕ). by_parts (path_to len w.path.from (drop w.mark steps) (n + d)) (n + d)) e
+    ∙ (ap (λ (xs : List DirSeg). by_parts (path_to len w.path.from xs p) p) items
+    ∙ ap (λ (x : Path). by_parts x p) (path_again len w.path.from asked p some h)))))
+  where
+    by_way : PlainWay → ℕ → PlainWay
+    by_way x n = record { mark = x.mark; path = path_to len x.path.from (drop x.mark steps) (x.end + n); end = x.end + n }
+
+    by_parts : Path → ℕ → PlainWay
+    by_parts x n = record { mark = w.mark; path = x; end = n }
+
+-- a kept train lengthened
+kept_longer : (len : Lengths) (asked : List DirSeg) (t : ℕ) (f : Facts) (a b : List DirSeg) (lo hi end d at report last answered : ℕ) → begin_of len b (lo - f.long) ≡ begin_of len a (lo - f.long)
+    → way_between len b (lo - f.long) (end + d) ≡ record {
+      mark = (way_between len a (lo - f.long) end).mark;
+      path = path_to len (way_between len a (lo - f.long) end).path.from (asked_way (way_between len a (lo - f.long) end).path.steps.items asked) (end_place len (way_between len a (lo - f.long) end).path + d);
+      end = end_place len (way_between len a (lo - f.long) end).path + d;
+    }
+    → kept_train len t f b lo hi (end + d) at report (last + 1) answered ≡ lengthened len asked d (kept_train len t f a lo hi end at report last answered)
+kept_longer len asked t f a b lo hi end d at report last answered begins way_is =
+    ap (λ (x : PlainWay). with_way x (begin_of len b (lo - f.long))) way_is ∙ ap (λ (n : ℕ). with_way longer n) begins
+  where
+    longer : PlainWay
+    longer = record {
+      mark = (way_between len a (lo - f.long) end).mark;
+      path = path_to len (way_between len a (lo - f.long) end).path.from (asked_way (way_between len a (lo - f.long) end).path.steps.items asked) (end_place len (way_between len a (lo - f.long) end).path + d);
+      end = end_place len (way_between len a (lo - f.long) end).path + d;
+    }
+
+    with_way : PlainWay → ℕ → ZoneTrain
+    with_way x n = record {
+      id = record { 0 = t };
+      train_length = f.long;
+      error = f.error;
+      speed = f.speed;
+      way = x;
+      fronts = record { lo = lo - n; hi = hi - n; at = at };
+      report = report;
+      last = last + 1;
+      answered = answered;
+    }
+
+-- lengthened onto another front of the track
+pub kept_lengthened : (line : Line) (first : Option DirSeg) (len : Lengths) (asked : List DirSeg) (t : ℕ) (f : Facts) (a b : List DirSeg) (lo hi end d at report last answered : ℕ) → TrackFront line first a → TrackFront line first b
+    → lo - f.long < end → end ≤ total len a → end ≤ total len b
+    → drop (way_between len a (lo - f.long) end).mark b ≡ steps_to len (asked_way (way_between len a (lo - f.long) end).path.steps.items asked) (end_place len (way_between len a (lo - f.long) end).path + d)
+    → 0 < length (asked_way (way_between len a (lo - f.long) end).path.steps.items asked)
+    → end_place len (way_between len a (lo - f.long) end).path + d ≤ total len (asked_way (way_between len a (lo - f.long) end).path.steps.items asked)
+    → kept_train len t f b lo hi (end + d) at report (last + 1) answered ≡ lengthened len asked d (kept_train len t f a lo hi end at report last answered)
+kept_lengthened line first len asked t f a b lo hi end d at report last answered g h order u v items some within =
+    let rear = lo - f.long in
+    let same = between_same line first len b a rear end h g order v u in
+    let one = between_before line first len a g rear end order u in
+    let two = between_before line first len b h rear end order v in
+    let begins = ap (total len) two ∙ (ap (λ (x : PlainWay). total len (track_from line first x.mark)) same ∙ sym (ap (total len) one)) in
+    kept_longer len asked t f a b lo hi end d at report last answered begins
+    (longer_way len b (asked_way (way_between len a rear end).path.steps.items asked) rear end d (way_between len a rear end) same order v items some within)
+
+-- An authority that ends where the longest does.
+module _ (line : Line) (t : ℕ) (s : Story) (valid : is_line line ≡ true) (sound : Sound line t s) (c : controls (zone_id line) t s ≡ true) (a : Authority) (is : AuthorityIs line t s a) (end : longest_end line t s ≡ track_end line t s a) where
+  abbrev n : ℕ
+  n = a.mark + length a.path.steps.items
+
+  pub route_reaches : longest_end line t s ≤ total (seg_len line) (track line t s (a.mark + length a.path.steps.items))
+  route_reaches = let e = end_on_track line t s a is in omega (arith, e, end)
+
+  -- what is kept lies on its route
+  pub route_kept : zone_train line t s ≡ Some (kept_train (seg_len line) t (known_facts (zone_id line) t s) (track line t s (a.mark + length a.path.steps.items)) (sound.fronts c).lo (sound.fronts c).hi (longest_end line t s)
+      (now_of (zone_id line) s) (report_time line (zone_id line) t s) (last_issued t s) (counted t s))
+  route_kept =
+      let w = way_of line t s valid sound c in
+      let order = w.order in
+      let ordered = w.ordered in
+      let within = w.within in
+      zone_kept line t s valid sound c
+      ∙ ap (λ (x : ZoneTrain). Some x) (kept_same line (first_entry t s) (seg_len line) t (known_facts (zone_id line) t s) (longest_route line t s) (track line t s n) (sound.fronts c).lo (sound.fronts c).hi (longest_end line t s)
+      (now_of (zone_id line) s) (report_time line (zone_id line) t s) (last_issued t s) (counted t s) w.front (track_front line (first_entry t s) n) (omega (arith, order, ordered, within)) w.room route_reaches)
+
+  -- it has all steps up to the end
+  pub route_steps : length (steps_to (seg_len line) (longest_route line t s) (longest_end line t s)) ≤ a.mark + length a.path.steps.items
+  route_steps =
+      let len = seg_len line in
+      let w = way_of line t s valid sound c in
+      let order = w.order in
+      let ordered = w.ordered in
+      let within = w.within in
+      let l = path_number line t s a is in
+      let q = path_some line t s a is in
+      let m = between_mark len (longest_route line t s) ((sound.fronts c).lo - (known_facts (zone_id line) t s).long) (longest_end line t s) (omega (arith, order, ordered, within)) w.room in
+      let e = ap (λ (xs : List DirSeg). length xs) (fronts_cut line (first_entry t s) len (longest_route line t s) (track line t s n) w.front (track_front line (first_entry t s) n) (longest_end line t s) (omega (arith, m)) (omega (arith, l, q)) w.room route_reaches) in
+      let f = cut_front len (track line t s n) (longest_end line t s) in
+      let g = ap (λ (xs : List DirSeg). length xs) f.1 in
+      let h = length-append (steps_to len (track line t s n) (longest_end line t s)) f.0 in
+      omega (arith, e, g, h, l)

@@ -1,0 +1,153 @@
+-- The plain state follows a message that the zone takes and that makes fronts grow alone, and the last authority issued again.
+use Rattle.std.proofs.Common.{◌≡◌, ℕ, suc, ◌+◌, ◌-◌, ◌<◌, ◌≤◌, List, ◌∷◌, take, Option, Some, true, false, refl, sym, ◌∙◌, ap, subst, arith}
+use Rattle.std.proofs.lemmas.Bool.Decides.{nat_tests}
+use Rattle.std.proofs.lemmas.Bool.{eqb-true}
+use Rattle.std.proofs.Math.Bool.{and-false}
+use Rattle.std.specs.Prelude.{nat_eq}
+use Rattle.track_points.specs.declared.ids.DirSeg.{DirSeg}
+use Rattle.track_points.specs.declared.ids.TrainId.{TrainId}
+use Rattle.track_points.specs.Points.{total}
+use Rattle.track_points.proofs.Some.{by_test}
+use Rattle.definitions.specs.declared.message.Msg.{Msg}
+use Rattle.definitions.specs.declared.message.Msg.TheVariants as msg
+use Rattle.definitions.specs.declared.outcome.Outcome.{Outcome}
+use Rattle.definitions.specs.Track.{Line, seg_len, track_from}
+use Rattle.definitions.specs.Ways.{PlainWay, way_between}
+use Rattle.definitions.specs.Story.{Entry as Made, Story, greatest_in, greatest_issued}
+use Rattle.definitions.specs.World.{first_entry, auth_number}
+use Rattle.definitions.specs.Control.{grants_entry, asker, controls, known_facts, known_trains, now_with, answer_number, last_issued}
+use Rattle.definitions.specs.Longest.{longest_end, longest_route}
+use Rattle.definitions.specs.Fronts.{possible_front, is_used}
+use Rattle.definitions.specs.Steps.{Effect, again}
+use Rattle.definitions.specs.Safe.{IsLineOfOneZone}
+use Rattle.plain_state.specs.ZoneTrain.{ZoneTrain}
+use Rattle.plain_state.specs.Zone.{find_way, grown_train}
+use Rattle.plain_state.specs.Plain.{Plain, zone_id}
+use Rattle.plain_state.specs.Relation.{zone_train, ids, Distinct, Linked}
+use Rattle.motion_laws.proofs.Issued.{AllIn, AllIssued}
+use Rattle.way_laws.proofs.Between_places.{between_end}
+use Rattle.way_laws.proofs.Between_moved.{between_before}
+use Rattle.sound_laws.proofs.Sound.{mark_place, track_end, most_to, AuthIs, Sound}
+use Rattle.link_laws.proofs.World_trains.{mapped}
+use Rattle.link_laws.proofs.Zone_values.{Grown}
+use Rattle.link_laws.proofs.Way_of.{way_of}
+use Rattle.link_laws.proofs.Heeded.{way_steps}
+use Rattle.link_laws.proofs.Unissued.{NoAuth, numbers_none, end_same, controls_same, counted_none}
+use Rattle.link_laws.proofs.Zone_idle.{first_same}
+use Rattle.link_laws.proofs.Zone_moves.{zone_made, ZoneMoves}
+use Rattle.link_laws.proofs.Zone_behind.{steps_same, controlled_still, zone_still, zone_silent}
+
+pub known_still : (z : ℕ) (x : Made) (s : Story) → grants_entry z (asker x.took) x ≡ false → known_trains z (x ∷ s) ≡ known_trains z s
+unfolding known_trains
+known_still z x s h = rw h refl
+
+-- what is left where no train comes in, and the end of each stays where it was
+pub record Stays (line : Line) (s : Story) (x : Made) : Type 0 where
+  pub grants : (t : ℕ) → grants_entry (zone_id line) t x ≡ false
+  pub few : (t : ℕ) → greatest_in (auth_number t) x.issued ≤ last_issued t s + 1
+  pub ends : (t : ℕ) → controls (zone_id line) t s ≡ true → longest_end line t (x ∷ s) ≡ longest_end line t s
+
+-- the trains behind such an event
+pub stay_moves : (line : Line) (x : Made) (s : Story) (p : Plain) (trains : List ZoneTrain) → IsLineOfOneZone line → Linked line s p → ((t : ℕ) → Sound line t s) → ((t : ℕ) → Sound line t (x ∷ s)) → Stays line s x
+    → ((t : ℕ) → find_way t trains ≡ zone_train line t (x ∷ s)) → ids trains ≡ known_trains (zone_id line) s → Distinct trains → ZoneMoves line s x trains
+stay_moves line x s p trains one k sound after h found known distinct = record {
+  found = found;
+  known = known ∙ sym (known_still (zone_id line) x s (h.grants (asker x.took)));
+  distinct = distinct;
+  few = h.few;
+  steps = λ t c2.
+      let c = sym (controls_same (zone_id line) t x s (h.grants t)) ∙ c2 in
+      let a = steps_same line t x s one (sound t) (after t) c c2 (h.ends t c) in
+      let b = way_steps line s p one k sound t c in
+      omega (arith, a, b);
+}
+
+pub silent_stays : (line : Line) (x : Made) (s : Story) → ((t : ℕ) → Sound line t s) → ((t : ℕ) → Sound line t (x ∷ s)) → ((t : ℕ) → grants_entry (zone_id line) t x ≡ false) → ((t : ℕ) → NoAuth t x.issued) → Stays line s x
+silent_stays line x s sound after grants silent = record {
+  grants = grants;
+  few = λ t. let n = numbers_none t x.issued (silent t) in omega (arith, n);
+  ends = λ t c. end_same line t x s (silent t) (sound t) (after t) c (controls_same (zone_id line) t x s (grants t) ∙ c) (first_same line t x s (sound t) c);
+}
+
+-- nothing but growth
+pub quiet_moves : (line : Line) (z number : ℕ) (m : Msg) (e : Effect) (s : Story) (p : Plain) (ways : List ZoneTrain) → IsLineOfOneZone line → suc z ≡ zone_id line → Linked line s p → ((t : ℕ) → Sound line t s)
+    → ((t : ℕ) → Sound line t (zone_made z number m e ∷ s)) → Grown line s (now_with (zone_id line) s m) ways
+    → ((t : ℕ) → grants_entry (zone_id line) t (zone_made z number m e) ≡ false) → ((t : ℕ) → NoAuth t e.issued)
+    → ((t : ℕ) → is_used line (zone_id line) t s (possible_front line (zone_id line) t s) m ≡ false) → ((t : ℕ) → answer_number t (Some (0, m)) ≡ 0) → ZoneMoves line s (zone_made z number m e) ways
+quiet_moves line z number m e s p ways one zone k sound after g grants silent unused uncounted =
+    stay_moves line (zone_made z number m e) s p ways one k sound after (silent_stays line (zone_made z number m e) s sound after grants silent)
+    (λ t. g.found t ∙ sym (zone_silent line z number m e s one zone t (sound t) (after t) (silent t) (grants t) (unused t) (uncounted t))) g.known g.distinct
+
+-- The last authority goes out again.
+module _ (line : Line) (z number : ℕ) (time : ℕ) (u : TrainId) (s : Story) (one : IsLineOfOneZone line) (zone : suc z ≡ zone_id line) (sound : (t : ℕ) → Sound line t s) (c : controls (zone_id line) u.0 s ≡ true) (lines : List Outcome) where
+  abbrev lo : ℕ
+  lo = ((sound u.0).fronts c).lo
+
+  abbrev rear : ℕ
+  rear = lo - (known_facts (zone_id line) u.0 s).long
+
+  abbrev w : PlainWay
+  w = way_between (seg_len line) (longest_route line u.0 s) rear (longest_end line u.0 s)
+
+  abbrev m : Msg
+  m = msg.Time time u
+
+  abbrev e : Effect
+  e = record { issued = (again u (last_issued u.0 s) (Some w)).issued; lines = lines }
+
+  abbrev x : Made
+  x = zone_made z number m e
+
+  again_none : (v : ℕ) → grants_entry (zone_id line) v (zone_made z number m e) ≡ false
+  again_none v = and-false (nat_eq (suc z) (zone_id line))
+
+  again_silent : (v : ℕ) → nat_eq u.0 v ≡ false → NoAuth v e.issued
+  unfolding AllIn
+  again_silent v o = (o, tt)
+
+  again_last : last_issued u.0 (zone_made z number m e ∷ s) ≡ last_issued u.0 s
+  unfolding greatest_in greatest_issued
+  again_last = let its : nat_eq u.0 u.0 ≡ true = grind (arith, nat_tests) in rw its (omega arith)
+
+  again_few : (v : ℕ) → greatest_in (auth_number v) e.issued ≤ last_issued v s + 1
+  unfolding greatest_in
+  again_few v = by_test (nat_eq u.0 v)
+      (λ b. let same : u.0 ≡ v = eqb-true u.0 v b in rw (b, same) (omega arith))
+      (λ b. rw b (omega arith))
+
+  module _ (after : (t : ℕ) → Sound line t (zone_made z number m e ∷ s)) where
+    c2 : controls (zone_id line) u.0 (zone_made z number m e ∷ s) ≡ true
+    c2 = controlled_still line z number m e s one zone u.0 (sound u.0) (after u.0) c (again_none u.0)
+
+    again_is : AuthIs line u.0 (zone_made z number m e ∷ s) (last_issued u.0 s) (record { mark = w.mark; path = w.path })
+    unfolding AllIn AllIssued
+    again_is = (after u.0).authorized.auths.0.0 (let its : nat_eq u.0 u.0 ≡ true = grind (arith, nat_tests) in its)
+
+    again_end : longest_end line u.0 (zone_made z number m e ∷ s) ≡ longest_end line u.0 s
+    again_end =
+        let len = seg_len line in
+        let v = way_of line u.0 s one.valid (sound u.0) c in
+        let p = v.order in
+        let q = v.ordered in
+        let r = v.within in
+        let order : rear < longest_end line u.0 s = omega (arith, p, q, r) in
+        let first = first_same line u.0 x s (sound u.0) c in
+        let begins : mark_place line u.0 (x ∷ s) w.mark ≡ total len (take w.mark (longest_route line u.0 s)) =
+        ap (λ (o : Option DirSeg). total len (track_from line o w.mark)) first
+        ∙ sym (ap (total len) (between_before line (first_entry u.0 s) len (longest_route line u.0 s) v.front rear (longest_end line u.0 s) order v.room)) in
+        let b = between_end len (longest_route line u.0 s) rear (longest_end line u.0 s) order v.room in
+        let far : track_end line u.0 (x ∷ s) (record { mark = w.mark; path = w.path }) ≡ longest_end line u.0 s = omega (arith, begins, b) in
+        ((after u.0).authorized.controlled c2).end ∙ (ap (λ (n : ℕ). most_to line u.0 (x ∷ s) n) again_last ∙ (sym again_is.exact ∙ far))
+
+    pub again_moves : (p : Plain) (ways : List ZoneTrain) → Linked line s p → Grown line s (now_with (zone_id line) s m) ways → ZoneMoves line s (zone_made z number m e) ways
+    again_moves p ways k g =
+        stay_moves line x s p ways one k sound after (record { grants = again_none; few = again_few; ends = ends })
+        (λ v. g.found v ∙ sym (by_test (nat_eq u.0 v)
+        (λ its. subst (λ (i : ℕ). zone_train line i (x ∷ s) ≡ mapped (grown_train (now_with (zone_id line) s m)) (zone_train line i s)) (eqb-true u.0 v its)
+        (zone_still line z number m e s one zone u.0 (sound u.0) (after u.0) (λ d. again_end) again_last (again_none u.0) refl (counted_none u.0 x s refl)))
+        (λ o. zone_silent line z number m e s one zone v (sound v) (after v) (again_silent v o) (again_none v) refl refl))) g.known g.distinct
+      where
+        ends : (v : ℕ) → controls (zone_id line) v s ≡ true → longest_end line v (zone_made z number m e ∷ s) ≡ longest_end line v s
+        ends v d = by_test (nat_eq u.0 v)
+            (λ its. subst (λ (i : ℕ). longest_end line i (x ∷ s) ≡ longest_end line i s) (eqb-true u.0 v its) again_end)
+            (λ o. end_same line v x s (again_silent v o) (sound v) (after v) d (controls_same (zone_id line) v x s (again_none v) ∙ d) (first_same line v x s (sound v) d))

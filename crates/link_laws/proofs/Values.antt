@@ -1,0 +1,161 @@
+-- What the plain state tells of a train is what the story tells.
+use Rattle.std.proofs.Common.{◌≡◌, ℕ, ◌-◌, List, [], ◌∷◌, Option, Some, None, true, false, refl, sym, ◌∙◌, ap, arith}
+use Rattle.std.specs.Prelude.{nat_eq, is_some}
+use Rattle.track_points.specs.declared.ids.DirSeg.{DirSeg}
+use Rattle.track_points.specs.Points.{Lengths}
+use Rattle.track_points.proofs.Some.{by_test}
+use Rattle.definitions.specs.declared.message.Msg.{Msg}
+use Rattle.definitions.specs.declared.message.Msg.TheVariants as msg
+use Rattle.definitions.specs.Track.{Line, seg_len}
+use Rattle.definitions.specs.Rules.{is_line}
+use Rattle.definitions.specs.Story.{Story, greatest_in, greatest_issued}
+use Rattle.definitions.specs.Ways.{PlainWay}
+use Rattle.definitions.specs.World.{Facts, facts_or, facts_of, is_declared, error_of, speed_of, first_entry, entered, head, HeldPath, Authority, entry_authority, last_number, auth_number, limit_place, journey}
+use Rattle.definitions.specs.Control.{controls, counted}
+use Rattle.definitions.specs.Longest.{auth_above, longest_in, longest_of, longest_end, longest_route}
+use Rattle.definitions.specs.Fronts.{least_rear}
+use Rattle.definitions.specs.Authority.{way, way_or_none}
+use Rattle.definitions.specs.Steps.{sender_of}
+use Rattle.plain_state.specs.declared.Head.{Head}
+use Rattle.plain_state.specs.declared.WorldTrain.{WorldTrain}
+use Rattle.plain_state.specs.declared.EntryAuthority.{EntryAuthority}
+use Rattle.plain_state.specs.World.{find_train, facts_found, entry_found, kept_sender, authority_found, head_found, on_found, number_found, room_found, error_found, speed_found}
+use Rattle.plain_state.specs.Plain.{Plain, zone_id}
+use Rattle.plain_state.specs.Relation.{kept_authority, head_of, world_of, Linked}
+use Rattle.motion_laws.proofs.Issued.{AllIn, AllIssued}
+use Rattle.sound_laws.proofs.Sound.{AuthTrue, Sound}
+use Rattle.link_laws.proofs.Way_of.{way_of}
+
+-- A train that the zone does not control has no way, and one that it controls has.
+
+module _ (line : Line) (t : ℕ) (at : Story) (len : Lengths) (steps : List DirSeg) (n : ℕ) where
+  above_none : (m : Msg) → AuthTrue line t at m → auth_number t m ≡ 0 → auth_above n t m ≡ None
+  above_none (msg.Auth u number mark path) h e = by_test (nat_eq u.0 t)
+      (λ y. let p = (h y).positive in let z : number ≡ 0 = rw y at e in absurd (omega (arith, p, z)))
+      (λ x. rw x refl)
+  above_none (msg.Report u time mark offset integrity) h e = refl
+  above_none (msg.Time time u) h e = refl
+  above_none (msg.EntryAsk u time long error speed equipped step) h e = refl
+  above_none (msg.Ask u time asked to) h e = refl
+  above_none (msg.Answer u time number taken) h e = refl
+
+  in_none : (issued : List (ℕ × Msg)) → AllIn (AuthTrue line t at) issued → greatest_in (auth_number t) issued ≡ 0 → longest_in len steps n t issued ≡ None
+  unfolding AllIn greatest_in longest_in
+  in_none [] a e = refl
+  in_none (x ∷ issued) a e = rw (above_none x.1 a.0 (omega (arith, e)), in_none issued a.1 (omega (arith, e))) refl
+
+  longest_none : (s : Story) → AllIssued (AuthTrue line t at) s → greatest_issued (auth_number t) s ≡ 0 → longest_of len steps n t s ≡ None
+  unfolding AllIssued greatest_issued longest_of
+  longest_none [] a e = refl
+  longest_none (x ∷ s) a e = rw (in_none x.issued a.0 (omega (arith, e)), longest_none s a.1 (omega (arith, e))) refl
+
+pub no_way : (line : Line) (t : ℕ) (s : Story) → Sound line t s → controls (zone_id line) t s ≡ false → way line (zone_id line) t s ≡ None
+no_way line t s sound n =
+    let e = longest_none line t s (seg_len line) (journey line t s) (counted t s) s sound.authorized.auths (sound.authorized.unknown n) in
+    ap (λ (a : Option Authority). way_or_none (seg_len line) a (longest_route line t s) (least_rear line (zone_id line) t s) (longest_end line t s)) e
+
+pub way_is_known : (line : Line) (t : ℕ) (s : Story) → is_line line ≡ true → Sound line t s → is_some (way line (zone_id line) t s) ≡ controls (zone_id line) t s
+way_is_known line t s valid sound = by_test (controls (zone_id line) t s)
+    (λ y. ap (λ (x : Option PlainWay). is_some x) ((way_of line t s valid sound y).is) ∙ sym y)
+    (λ n. ap (λ (x : Option PlainWay). is_some x) (no_way line t s sound n) ∙ sym n)
+
+pub no_way_unknown : (line : Line) (t : ℕ) (s : Story) → is_line line ≡ true → Sound line t s → way line (zone_id line) t s ≡ None → controls (zone_id line) t s ≡ false
+no_way_unknown line t s valid sound h = sym (way_is_known line t s valid sound) ∙ ap (λ (x : Option PlainWay). is_some x) h
+
+-- What is found of a train of the world.
+
+facts_of_world : (t : ℕ) (f : Option Facts) (e : Option DirSeg) (a : Option EntryAuthority) (h : Option Head) (m n : ℕ) → facts_found (world_of t f e a h m n) ≡ f
+facts_of_world t None e a h m n = refl
+facts_of_world t (Some f) e a h m n = refl
+
+some_of_world : (t : ℕ) (f : Option Facts) (e : Option DirSeg) (a : Option EntryAuthority) (h : Option Head) (m n : ℕ) → is_some (world_of t f e a h m n) ≡ is_some f
+some_of_world t None e a h m n = refl
+some_of_world t (Some f) e a h m n = refl
+
+entry_of_world : (t : ℕ) (f : Option Facts) (e : Option DirSeg) (a : Option EntryAuthority) (h : Option Head) (m n : ℕ) → (is_some f ≡ false → e ≡ None) → entry_found (world_of t f e a h m n) ≡ e
+entry_of_world t None e a h m n none = sym (none refl)
+entry_of_world t (Some f) e a h m n none = refl
+
+authority_of_world : (t : ℕ) (f : Option Facts) (e : Option DirSeg) (a : Option EntryAuthority) (h : Option Head) (m n : ℕ) → (is_some f ≡ false → kept_sender a ≡ None) → authority_found (world_of t f e a h m n) ≡ kept_sender a
+authority_of_world t None e a h m n none = sym (none refl)
+authority_of_world t (Some f) e a h m n none = refl
+
+head_of_world : (t : ℕ) (f : Option Facts) (e : Option DirSeg) (a : Option EntryAuthority) (h : Option Head) (m n : ℕ) → (is_some f ≡ false → h ≡ None) → head_found (world_of t f e a h m n) ≡ h
+head_of_world t None e a h m n none = sym (none refl)
+head_of_world t (Some f) e a h m n none = refl
+
+number_of_world : (t : ℕ) (f : Option Facts) (e : Option DirSeg) (a : Option EntryAuthority) (h : Option Head) (m n : ℕ) → (is_some f ≡ false → n ≡ 0) → number_found (world_of t f e a h m n) ≡ n
+number_of_world t None e a h m n none = sym (none refl)
+number_of_world t (Some f) e a h m n none = refl
+
+room_of_world : (t : ℕ) (f : Option Facts) (e : Option DirSeg) (a : Option EntryAuthority) (h : Option Head) (m n : ℕ) → is_some f ≡ true → room_found (world_of t f e a h m n) ≡ m
+room_of_world t None e a h m n some = absurd cc
+room_of_world t (Some f) e a h m n some = refl
+
+error_of_world : (t : ℕ) (f : Option Facts) (e : Option DirSeg) (a : Option EntryAuthority) (h : Option Head) (m n : ℕ) → error_found (world_of t f e a h m n) ≡ (facts_or f).error
+error_of_world t None e a h m n = refl
+error_of_world t (Some f) e a h m n = refl
+
+speed_of_world : (t : ℕ) (f : Option Facts) (e : Option DirSeg) (a : Option EntryAuthority) (h : Option Head) (m n : ℕ) → speed_found (world_of t f e a h m n) ≡ (facts_or f).speed
+speed_of_world t None e a h m n = refl
+speed_of_world t (Some f) e a h m n = refl
+
+-- who sent the authority that is kept
+pub sender_kept : (len : Lengths) (a : Option HeldPath) → kept_sender (kept_authority len a) ≡ sender_of a
+sender_kept len None = refl
+sender_kept len (Some a) = refl
+
+-- a train without facts has none of the rest
+pub undeclared : (line : Line) (t : ℕ) (s : Story) → Sound line t s → is_declared t s ≡ false → controls (zone_id line) t s ≡ false
+undeclared line t s sound h = by_test (controls (zone_id line) t s)
+    (λ y. absurd (let c : true ≡ false = sym ((sound.authorized.controlled y).declared) ∙ h in cc))
+    (λ n. n)
+
+pub no_entry_authority : (line : Line) (t : ℕ) (s : Story) → Sound line t s → is_declared t s ≡ false → entry_authority t s ≡ None
+no_entry_authority line t s sound h = none (entry_authority t s) refl
+  where
+    none : (a : Option HeldPath) → entry_authority t s ≡ a → a ≡ None
+    none None e = refl
+    none (Some a) e = absurd (let c : true ≡ false = sym ((sound.authorized.entry a e).authority.declared) ∙ h in cc)
+
+pub no_number : (line : Line) (t : ℕ) (s : Story) → Sound line t s → is_declared t s ≡ false → last_number t s ≡ 0
+no_number line t s sound h =
+    let a = sound.authorized.last_most in
+    let b = sound.authorized.unknown (undeclared line t s sound h) in
+    omega (arith, a, b)
+
+some_head : (line : Line) (t : ℕ) (s : Story) → is_some (head_of line t s) ≡ entered t s
+some_head line t s = by_test (entered t s) (λ y. rw y refl) (λ n. rw n refl)
+
+module _ (line : Line) (s : Story) (p : Plain) (k : Linked line s p) (sound : (t : ℕ) → Sound line t s) where
+  pub facts_is : (t : ℕ) → facts_found (find_train t p.world.trains) ≡ facts_of t s
+  facts_is t = ap (λ (x : Option WorldTrain). facts_found x) (k.trains t) ∙ facts_of_world t (facts_of t s) _ _ _ _ _
+
+  pub declared_is : (t : ℕ) → is_some (find_train t p.world.trains) ≡ is_declared t s
+  declared_is t = ap (λ (x : Option WorldTrain). is_some x) (k.trains t) ∙ some_of_world t (facts_of t s) _ _ _ _ _
+
+  pub entry_is : (t : ℕ) → entry_found (find_train t p.world.trains) ≡ first_entry t s
+  entry_is t = ap (λ (x : Option WorldTrain). entry_found x) (k.trains t) ∙ entry_of_world t (facts_of t s) (first_entry t s) _ _ _ _ (k.unasked t)
+
+  pub authority_is : (t : ℕ) → authority_found (find_train t p.world.trains) ≡ sender_of (entry_authority t s)
+  authority_is t = ap (λ (x : Option WorldTrain). authority_found x) (k.trains t)
+      ∙ (authority_of_world t (facts_of t s) _ (kept_authority (seg_len line) (entry_authority t s)) _ _ _ (λ h. ap (λ (a : Option HeldPath). kept_sender (kept_authority (seg_len line) a)) (no_entry_authority line t s (sound t) h))
+      ∙ sender_kept (seg_len line) (entry_authority t s))
+
+  pub head_is : (t : ℕ) → head_found (find_train t p.world.trains) ≡ head_of line t s
+  head_is t = ap (λ (x : Option WorldTrain). head_found x) (k.trains t) ∙ head_of_world t (facts_of t s) _ _ (head_of line t s) _ _ (λ h. rw (k.stays_off t h) refl)
+
+  pub on_is : (t : ℕ) → on_found (find_train t p.world.trains) ≡ entered t s
+  on_is t = ap (λ (x : Option Head). is_some x) (head_is t) ∙ some_head line t s
+
+  pub number_is : (t : ℕ) → number_found (find_train t p.world.trains) ≡ last_number t s
+  number_is t = ap (λ (x : Option WorldTrain). number_found x) (k.trains t) ∙ number_of_world t (facts_of t s) _ _ _ _ (last_number t s) (no_number line t s (sound t))
+
+  pub room_is : (t : ℕ) → is_declared t s ≡ true → room_found (find_train t p.world.trains) ≡ limit_place line t s - head t s
+  room_is t d = ap (λ (x : Option WorldTrain). room_found x) (k.trains t) ∙ room_of_world t (facts_of t s) _ _ _ (limit_place line t s - head t s) _ d
+
+  pub error_is : (t : ℕ) → error_found (find_train t p.world.trains) ≡ error_of t s
+  error_is t = ap (λ (x : Option WorldTrain). error_found x) (k.trains t) ∙ error_of_world t (facts_of t s) _ _ _ _ _
+
+  pub speed_is : (t : ℕ) → speed_found (find_train t p.world.trains) ≡ speed_of t s
+  speed_is t = ap (λ (x : Option WorldTrain). speed_found x) (k.trains t) ∙ speed_of_world t (facts_of t s) _ _ _ _ _

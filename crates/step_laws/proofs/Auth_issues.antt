@@ -1,0 +1,179 @@
+-- What a take of the zone issues of authorities of a train.
+use Rattle.std.proofs.Common.{◌≡◌, ℕ, ◌+◌, ◌≤◌, ◌<◌, List, [], ◌∷◌, Option, Some, None, Bool, true, false, ◌&&◌, refl, sym, ◌∙◌, ap, subst, arith}
+use Rattle.std.proofs.lemmas.Bool.Decides.{nat_tests}
+use Rattle.std.specs.Prelude.{nat_eq, nat_lt}
+use Rattle.track_points.specs.declared.ids.DirSeg.{DirSeg}
+use Rattle.track_points.specs.declared.ids.TrainId.{TrainId}
+use Rattle.track_points.specs.declared.path.Path.{Path}
+use Rattle.track_points.specs.Points.{Lengths, Point, total, end_place}
+use Rattle.track_points.proofs.Some.{by_test}
+use Rattle.arrayvec.specs.ArrayVec.{ArrayVec}
+use Rattle.definitions.specs.declared.event.Event.{Event}
+use Rattle.definitions.specs.declared.message.Msg.{Msg}
+use Rattle.definitions.specs.declared.message.Msg.TheVariants as msg
+use Rattle.definitions.specs.Track.{Line, seg_len}
+use Rattle.definitions.specs.Ways.{PlainWay, way_between}
+use Rattle.definitions.specs.Story.{Entry as Made, Story}
+use Rattle.definitions.specs.World.{entered, is_auth}
+use Rattle.definitions.specs.Control.{grants_entry, controls, knows, knows_most, now_with, counted, last_issued}
+use Rattle.definitions.specs.Longest.{longest_end, longest_route}
+use Rattle.definitions.specs.Fronts.{report_time, silent_by, is_used, possible_front, least_rear}
+use Rattle.definitions.specs.Authority.{way, holder_of}
+use Rattle.definitions.specs.Limit.{Reach, asked_way, continues, path_of, reach_from, barring, limit}
+use Rattle.definitions.specs.Steps.{entry_path, path_to, zone_entry, zone_ask, zone_report, zone_time, zone_step, made}
+use Rattle.definitions.specs.Safe.{IsLineOfOneZone}
+use Rattle.plain_state.specs.Plain.{zone_id}
+use Rattle.motion_laws.proofs.Motion.{Motion}
+use Rattle.motion_laws.proofs.Notions.{both}
+use Rattle.motion_laws.proofs.Issued.{AllIn}
+use Rattle.way_laws.proofs.Reach.{reach_granted}
+use Rattle.sound_laws.proofs.Sound.{path_fits, FrontsAre, RequestTrue, Authorized}
+use Rattle.authority_laws.proofs.Auth_new.{NewAuth}
+use Rattle.authority_laws.proofs.Auth_entry.{entry_new}
+use Rattle.authority_laws.proofs.Way_is.{parts, way_facts, fits_within}
+use Rattle.authority_laws.proofs.Auth_again.{way_fits, renewed_way}
+use Rattle.authority_laws.proofs.Auth_longer.{granted_ready, grant_fits, granted_way}
+
+-- no authority of the train, or one
+pub data Issues (line : Line) (t : ℕ) (s : Story) (x : Made) : Type 0 where
+  quiet : AllIn (λ m. is_auth t m ≡ false) x.issued → Issues line t s x
+  issues : NewAuth line t s x → Issues line t s x
+
+abbrev pub NoAuth : ℕ → List (ℕ × Msg) → Type 0
+NoAuth t issued = AllIn (λ m. is_auth t m ≡ false) issued
+
+pub no_issue : (t : ℕ) (issued : List (ℕ × Msg)) → issued ≡ [] → NoAuth t issued
+unfolding AllIn
+no_issue t issued h = rw h tt
+
+-- another train's
+pub other_issue : (t number mark : ℕ) (u : TrainId) (path : Path) (issued : List (ℕ × Msg)) → nat_eq u.0 t ≡ false → issued ≡ (0, msg.Auth u number mark path) ∷ [] → NoAuth t issued
+unfolding AllIn
+other_issue t number mark u path issued other h = rw h (other, tt)
+
+-- What each take comes to: nothing, or one authority.
+
+pub entry_cases : (P : Type 0) (z : ℕ) (known full : Bool) (room : ℕ) (u : TrainId) (long : ℕ) (step : DirSeg) (holder : Option ℕ) → ((zone_entry z known full room u long step holder).issued ≡ [] → P)
+    → (known ≡ false → nat_lt room long ≡ false → (zone_entry z known full room u long step holder).issued ≡ (0, msg.Auth u 1 0 (entry_path step room)) ∷ [] → P) → P
+entry_cases P z true full room u long step holder f g = f refl
+entry_cases P z false true room u long step holder f g = f refl
+entry_cases P z false false room u long step (Some held) f g = f (by_test (nat_lt room long) (λ y. rw y refl) (λ n. rw n refl))
+entry_cases P z false false room u long step None f g = by_test (nat_lt room long)
+    (λ y. f (rw y refl))
+    (λ n. g refl n (rw n refl))
+
+pub ask_cases : (P : Type 0) (len : Lengths) (z : ℕ) (u : TrainId) (last : ℕ) (w : Option PlainWay) (asked : List DirSeg) (reach : Reach) → ((zone_ask len z u last w asked reach).issued ≡ [] → P)
+    → ((v : PlainWay) → w ≡ Some v → nat_eq reach.distance 0 ≡ false
+    → (zone_ask len z u last w asked reach).issued ≡ (0, msg.Auth u (last + 1) v.mark (path_to len v.path.from (asked_way v.path.steps.items asked) (end_place len v.path + reach.distance))) ∷ [] → P) → P
+ask_cases P len z u last None asked reach f g = f refl
+ask_cases P len z u last (Some v) asked reach f g = by_test (nat_eq reach.distance 0)
+    (λ y. f (rw y refl))
+    (λ n. g v refl n (rw n refl))
+
+pub time_cases : (P : Type 0) (controlled : Bool) (counted_ last : ℕ) (u : TrainId) (w : Option PlainWay) → ((zone_time controlled counted_ last u w).issued ≡ [] → P)
+    → ((v : PlainWay) → w ≡ Some v → controlled ≡ true → (zone_time controlled counted_ last u w).issued ≡ (0, msg.Auth u last v.mark v.path) ∷ [] → P) → P
+time_cases P false counted_ last u w f g = f refl
+time_cases P true counted_ last u None f g = f (by_test (nat_lt counted_ last) (λ y. rw y refl) (λ n. rw n refl))
+time_cases P true counted_ last u (Some v) f g = by_test (nat_lt counted_ last)
+    (λ y. g v refl refl (rw y refl))
+    (λ n. f (rw n refl))
+
+pub report_none : (line : Line) (z : ℕ) (s : Story) (u : TrainId) (m : Msg) → (zone_report line z s u m).issued ≡ []
+report_none line z s u m = by_test (is_used line z u.0 s (possible_front line z u.0 s) m) (λ y. rw y refl) (λ n. rw n refl)
+
+-- where a zone does not control a train an ask reaches nowhere
+no_reach : (line : Line) (ready silent : Bool) (w : Option Path) (asked : List DirSeg) (to : ℕ) (held : Point → Bool) → ready ≡ false → nat_eq (reach_from line ready silent w asked to held).distance 0 ≡ true
+no_reach line ready silent None asked to held h = refl
+no_reach line ready silent (Some path) asked to held h = rw h refl
+
+some_way : (v w : PlainWay) → Some v ≡ Some w → v ≡ w
+some_way v w h = cc
+
+-- the granted way, for the way by whatever name
+granted : (line : Line) (t : ℕ) (s : Story) (one : IsLineOfOneZone line) (m : Motion t s) (k : Authorized line t s) (c : controls (zone_id line) t s ≡ true) (f : FrontsAre line t s) (x : Made) (asked : List DirSeg) (v : PlainWay)
+    → v ≡ way_between (seg_len line) (longest_route line t s) (least_rear line (zone_id line) t s) (longest_end line t s) → (u : TrainId) (d : ℕ) → continues line v.path.steps.items asked ≡ true → 0 < d
+    → end_place (seg_len line) v.path + d ≤ total (seg_len line) (asked_way v.path.steps.items asked)
+    → path_fits line (path_to (seg_len line) v.path.from (asked_way v.path.steps.items asked) (end_place (seg_len line) v.path + d)) ≡ true
+    → x.issued ≡ (0, msg.Auth u (last_issued t s + 1) v.mark (path_to (seg_len line) v.path.from (asked_way v.path.steps.items asked) (end_place (seg_len line) v.path + d))) ∷ []
+    → nat_eq u.0 t ≡ true → grants_entry (zone_id line) t x ≡ false → entered t s ≡ true → NewAuth line t s x
+granted line t s one m k c f x asked v same u d continued above room fits issued its ungranted on =
+    let w = way_between (seg_len line) (longest_route line t s) (least_rear line (zone_id line) t s) (longest_end line t s) in
+    let len = seg_len line in
+    granted_way line t s one m k c f asked (subst (λ (y : PlainWay). continues line y.path.steps.items asked ≡ true) same continued) x u d above
+    (subst (λ (y : PlainWay). end_place len y.path + d ≤ total len (asked_way y.path.steps.items asked)) same room)
+    (subst (λ (y : PlainWay). path_fits line (path_to len y.path.from (asked_way y.path.steps.items asked) (end_place len y.path + d)) ≡ true) same fits)
+    (subst (λ (y : PlainWay). x.issued ≡ (0, msg.Auth u (last_issued t s + 1) y.mark (path_to len y.path.from (asked_way y.path.steps.items asked) (end_place len y.path + d))) ∷ []) same issued)
+    its ungranted on
+
+module _ (line : Line) (s : Story) (one : IsLineOfOneZone line) (e : Event) (from : ℕ) (u : TrainId) (m : Motion u.0 s) (k : Authorized line u.0 s) (fronts : controls (zone_id line) u.0 s ≡ true → FrontsAre line u.0 s) where
+  abbrev z : ℕ
+  z = zone_id line
+
+  abbrev step : Msg → Made
+  step q = made e (zone_id line) (Some (from, q)) (zone_step line (zone_id line) s q)
+
+  own : nat_eq u.0 u.0 ≡ true
+  own = grind (arith, nat_tests)
+
+  pub entry_issues : (time long error speed : ℕ) (equipped : Bool) (st : DirSeg) → RequestTrue line u.0 s (msg.EntryAsk u time long error speed equipped st)
+      → Issues line u.0 s (made e (zone_id line) (Some (from, msg.EntryAsk u time long error speed equipped st)) (zone_step line (zone_id line) s (msg.EntryAsk u time long error speed equipped st)))
+  entry_issues time long error speed equipped st asked =
+      let x = step (msg.EntryAsk u time long error speed equipped st) in
+      entry_cases (Issues line u.0 s x) z (knows z u.0 s) (knows_most z s) (seg_len line st.seg.0) u long st (holder_of line z s st.seg.0)
+      (λ h. quiet (no_issue u.0 x.issued h))
+      (λ free fitting h. issues (entry_new line u.0 s one.valid m k free long error speed st (asked own) fitting x u from time equipped refl refl own h))
+
+  ungranted_ask : (time : ℕ) (steps : ArrayVec DirSeg) (to : ℕ) → grants_entry (zone_id line) u.0 (made e (zone_id line) (Some (from, msg.Ask u time steps to)) (zone_step line (zone_id line) s (msg.Ask u time steps to))) ≡ false
+  ungranted_ask time steps to = grind arith
+
+  pub ask_issues : (time : ℕ) (steps : ArrayVec DirSeg) (to : ℕ)
+      → Issues line u.0 s (made e (zone_id line) (Some (from, msg.Ask u time steps to)) (zone_step line (zone_id line) s (msg.Ask u time steps to)))
+  ask_issues time steps to =
+      let q = msg.Ask u time steps to in
+      let x = step q in
+      let len = seg_len line in
+      let ready = controls z u.0 s && nat_lt 0 (counted u.0 s) in
+      let silent = silent_by line (report_time line z u.0 s) (now_with z s q) in
+      let held = barring line z u.0 s in
+      ask_cases (Issues line u.0 s x) len z u (last_issued u.0 s) (way line z u.0 s) steps.items (limit line z u.0 s (now_with z s q) steps.items to)
+      (λ h. quiet (no_issue u.0 x.issued h))
+      (λ v is far h. by_test ready
+      (λ go.
+      let r = both (controls z u.0 s) (nat_lt 0 (counted u.0 s)) go in
+      let c = r.0 in
+      let f = fronts c in
+      let w = way_facts line u.0 s one k c f in
+      let same = some_way v _ (sym is ∙ w.is) in
+      let on = come_on r.1 in
+      let p = ap (λ (y : PlainWay). path_fits line y.path) same ∙ way_fits line u.0 s one m k c f in
+      let fit = parts line v.path p in
+      let reach : limit line z u.0 s (now_with z s q) steps.items to ≡ reach_from line ready silent (Some v.path) steps.items to held = ap (λ (y : Option PlainWay). reach_from line ready silent (path_of y) steps.items to held) is in
+      let d = (limit line z u.0 s (now_with z s q) steps.items to).distance in
+      let some : nat_eq (reach_from line ready silent (Some v.path) steps.items to held).distance 0 ≡ false = sym (ap (λ (y : Reach). nat_eq y.distance 0) reach) ∙ far in
+      let go_on = granted_ready line ready silent v.path steps.items to held some in
+      let within = reach_granted line ready silent v.path steps.items to held fit.some (fits_within line v.path fit) in
+      let room : end_place len v.path + d ≤ total len (asked_way v.path.steps.items steps.items) = subst (λ (y : Reach). end_place len v.path + y.distance ≤ total len (asked_way v.path.steps.items steps.items)) (sym reach) within in
+      let fits = subst (λ (y : Reach). path_fits line (path_to len v.path.from (asked_way v.path.steps.items steps.items) (end_place len v.path + y.distance)) ≡ true) (sym reach) (grant_fits line ready silent v.path steps.items to held fit some) in
+      let above : 0 < d = grind (arith, nat_tests) in
+      issues (granted line u.0 s one m k c f x steps.items v same u d go_on.1.0 above room fits h own (ungranted_ask time steps to) on))
+      (λ n. absurd (let c : true ≡ false = sym (no_reach line ready silent (path_of (way line z u.0 s)) steps.items to held n) ∙ far in cc)))
+    where
+      come_on : nat_lt 0 (counted u.0 s) ≡ true → entered u.0 s ≡ true
+      come_on h = by_test (entered u.0 s)
+          (λ y. y)
+          (λ n. absurd (let z : 0 < counted u.0 s = grind (arith, nat_tests) in let none = k.uncounted n in omega (arith, z, none)))
+
+  ungranted_time : (time : ℕ) → grants_entry (zone_id line) u.0 (made e (zone_id line) (Some (from, msg.Time time u)) (zone_step line (zone_id line) s (msg.Time time u))) ≡ false
+  ungranted_time time = grind arith
+
+  pub time_issues : (time : ℕ) → Issues line u.0 s (made e (zone_id line) (Some (from, msg.Time time u)) (zone_step line (zone_id line) s (msg.Time time u)))
+  time_issues time =
+      let x = step (msg.Time time u) in
+      time_cases (Issues line u.0 s x) (controls z u.0 s) (counted u.0 s) (last_issued u.0 s) u (way line z u.0 s)
+      (λ h. quiet (no_issue u.0 x.issued h))
+      (λ v is c h.
+      let f = fronts c in
+      let w = way_facts line u.0 s one k c f in
+      let same = some_way v _ (sym is ∙ w.is) in
+      issues (renewed_way line u.0 s one m k c f x u
+      (h ∙ ap (λ (y : PlainWay). (0, msg.Auth u (last_issued u.0 s) y.mark y.path) ∷ []) same) own (ungranted_time time)))

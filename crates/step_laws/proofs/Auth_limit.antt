@@ -1,0 +1,173 @@
+-- The limit that a train holds is the end of an issued authority, and not behind its head.
+use Rattle.std.proofs.Common.{◌≡◌, ℕ, ◌+◌, ◌≤◌, ◌<◌, max, List, ◌∷◌, Option, Some, true, false, refl, sym, ◌∙◌, ap, arith}
+use Rattle.std.proofs.lemmas.Bool.Decides.{nat_tests}
+use Rattle.std.specs.Prelude.{nat_lt}
+use Rattle.track_points.specs.declared.ids.DirSeg.{DirSeg}
+use Rattle.track_points.specs.declared.path.Path.{Path}
+use Rattle.track_points.specs.Points.{total, end_place, place_of_last}
+use Rattle.track_points.proofs.Some.{by_test}
+use Rattle.definitions.specs.declared.event.Event.{Event}
+use Rattle.definitions.specs.declared.event.Event.TheVariants.{Train, Entry, Enter, Ask, Step, Report, Time, Take, Deliver}
+use Rattle.definitions.specs.Track.{Line, seg_len}
+use Rattle.definitions.specs.Rules.{is_line}
+use Rattle.definitions.specs.Premises.{stops_rightly}
+use Rattle.definitions.specs.Story.{Entry as Made, Story, world_took}
+use Rattle.definitions.specs.World.{first_entry, enters, entered, moved, head, journey, Authority, HeldPath, entry_authority, taken_number, taken_path, last_number, limit_held, held_end, limit_place}
+use Rattle.definitions.specs.Control.{controls}
+use Rattle.plain_state.specs.Plain.{zone_id}
+use Rattle.motion_laws.proofs.Motion.{head_on, head_next}
+use Rattle.motion_laws.proofs.Moves.{head_step}
+use Rattle.way_laws.proofs.Track.{some_same, track_none}
+use Rattle.sound_laws.proofs.Sound.{track, track_end, most_to, AuthorityIs, FirstIs, LimitIs, Authorized}
+use Rattle.authority_laws.proofs.Auth_places.{lies, track_stays, end_is, end_same, authority_stays}
+use Rattle.authority_laws.proofs.Most_of.{most_more}
+use Rattle.authority_laws.proofs.Auth_new.{ground, newest_end}
+use Rattle.authority_laws.proofs.Auth_quiet.{AuthsStay}
+use Rattle.step_laws.proofs.Auth_taken.{TakenIs}
+
+-- a step moves a train to its limit at most
+moved_stops : (line : Line) (t : ℕ) (s : Story) (e : Event) → stops_rightly line s e ≡ true → head t s ≤ limit_place line t s → head t s + moved t e ≤ limit_place line t s
+moved_stops line t s (Step ms moves) h l = head_step line t s moves.items h l
+moved_stops line t s (Train u long error speed kind) h l = omega (arith, l)
+moved_stops line t s (Entry u step) h l = omega (arith, l)
+moved_stops line t s (Enter u) h l = omega (arith, l)
+moved_stops line t s (Ask u z steps to) h l = omega (arith, l)
+moved_stops line t s (Report u z step offset whole) h l = omega (arith, l)
+moved_stops line t s (Time z u) h l = omega (arith, l)
+moved_stops line t s (Take to from number) h l = omega (arith, l)
+moved_stops line t s (Deliver to) h l = omega (arith, l)
+
+-- where an authority over the portal segment ends
+first_end : (line : Line) (t : ℕ) (s : Story) (a : Authority) (f : FirstIs line t s a) → track_end line t s a ≡ seg_len line f.step.seg.0
+unfolding total place_of_last
+first_end line t s a f =
+    ap (λ (n : ℕ). total (seg_len line) (track line t s n) + end_place (seg_len line) a.path) f.mark
+    ∙ ap (λ (xs : List DirSeg). total (seg_len line) xs + end_place (seg_len line) a.path) (track_none line (first_entry t s))
+    ∙ ap (λ (p : Path). 0 + end_place (seg_len line) p) f.path
+    ∙ (omega arith)
+
+first_step : (line : Line) (t : ℕ) (s : Story) (a b : Authority) (f : FirstIs line t s a) (g : FirstIs line t s b) → f.step ≡ g.step
+first_step line t s a b f g = some_same f.step g.step (sym f.first ∙ g.first)
+
+-- One entry further.
+
+module _ (t : ℕ) (x : Made) (s : Story) where
+  number_on : enters t x.event ≡ true → last_number t (x ∷ s) ≡ 1
+  unfolding last_number
+  number_on h = rw h refl
+
+  limit_on : enters t x.event ≡ true → limit_held t (x ∷ s) ≡ entry_authority t s
+  unfolding limit_held
+  limit_on h = rw h refl
+
+  pub number_next : enters t x.event ≡ false → entered t s ≡ true → last_number t (x ∷ s) ≡ max (last_number t s) (taken_number t (world_took x))
+  unfolding last_number
+  number_next h on = rw (h, on) refl
+
+  pub number_off : enters t x.event ≡ false → entered t s ≡ false → last_number t (x ∷ s) ≡ last_number t s
+  unfolding last_number
+  number_off h off = rw (h, off) refl
+
+  limit_next : enters t x.event ≡ false → entered t s ≡ true → nat_lt (last_number t s) (taken_number t (world_took x)) ≡ true → limit_held t (x ∷ s) ≡ taken_path t (world_took x)
+  unfolding limit_held
+  limit_next h on new = rw (h, on, new) refl
+
+  limit_still : enters t x.event ≡ false → nat_lt (last_number t s) (taken_number t (world_took x)) ≡ false → limit_held t (x ∷ s) ≡ limit_held t s
+  unfolding limit_held
+  limit_still h old = by_test (entered t s) (λ on. rw (h, on, old) refl) (λ off. rw (h, off) refl)
+
+module _ (line : Line) (t : ℕ) (s : Story) (x : Made) (valid : is_line line ≡ true) (k : Authorized line t s) (c : controls (zone_id line) t s ≡ true) (stay : AuthsStay line t s x) where
+  -- the end of an authority held, on the journey one entry further
+  held_is : (h : HeldPath) → limit_held t (x ∷ s) ≡ Some h → AuthorityIs line t s h.authority → limit_place line t (x ∷ s) ≡ track_end line t s h.authority
+  held_is h is a =
+      let o = ground line t s k valid c in
+      let next = authority_stays line t x s stay.same h.authority (stay.moved a.declared) stay.ends a in
+      ap (λ (g : Option HeldPath). held_end (seg_len line) (journey line t (x ∷ s)) g) is
+      ∙ end_is line t (x ∷ s) h.authority (track_stays line t x s o) (lies line t (x ∷ s) h.authority next)
+      ∙ end_same line t x s stay.same h.authority
+
+  held_was : (h : HeldPath) → limit_held t s ≡ Some h → AuthorityIs line t s h.authority → limit_place line t s ≡ track_end line t s h.authority
+  held_was h is a =
+      ap (λ (g : Option HeldPath). held_end (seg_len line) (journey line t s) g) is ∙ end_is line t s h.authority (ground line t s k valid c) (lies line t s h.authority a)
+
+  -- as the train comes on
+  pub limit_comes : enters t x.event ≡ true → entered t s ≡ false → (h : HeldPath) → entry_authority t s ≡ Some h → LimitIs line t (x ∷ s)
+  limit_comes on off h is =
+      let held = k.entry h is in
+      let a = held.authority in
+      let g = k.controlled c in
+      let early = g.early off in
+      let p = held_is h (limit_on t x s on ∙ is) a in
+      let e = first_end line t s h.authority held.first in
+      let e2 = first_end line t s g.newest early.1 in
+      let same = ap (λ (st : DirSeg). seg_len line st.seg.0) (first_step line t s h.authority g.newest held.first early.1) in
+      let newest = newest_end line t s k valid c in
+      let end = g.end in
+      let last = ap (λ (n : ℕ). most_to line t s n) early.0 in
+      let m = stay.most 1 held.issued in
+      let n = ap (λ (i : ℕ). most_to line t (x ∷ s) i) (number_on t x s on) in
+      let hd = head_on t x s on in
+      let room = held.first.room in
+      record {
+        held = h;
+        is = limit_on t x s on ∙ is;
+        authority = authority_stays line t x s stay.same h.authority (stay.moved a.declared) stay.ends a;
+        number = omega (arith, p, e, e2, same, newest, end, last, m, n);
+        ahead = omega (arith, p, e, hd, room);
+      }
+
+  -- on the line: a greater number that it takes, or the limit that it holds
+  module _ (no : enters t x.event ≡ false) (on : entered t s ≡ true) (stops : stops_rightly line s x.event ≡ true) where
+    limit_takes : TakenIs line t s (world_took x) → nat_lt (last_number t s) (taken_number t (world_took x)) ≡ true → LimitIs line t (x ∷ s)
+    limit_takes taken new =
+        let less : last_number t s < taken_number t (world_took x) = grind (arith, nat_tests) in
+        let some = taken.some (omega (arith, less)) in
+        let h = some.0 in
+        let i = taken.is h some.1 in
+        let a = i.authority in
+        let is = limit_next t x s no on new ∙ some.1 in
+        let p = held_is h is a in
+        let exact = i.exact in
+        let m = stay.most (taken_number t (world_took x)) taken.known in
+        let q = number_next t x s no on in
+        let number : last_number t (x ∷ s) ≡ taken_number t (world_took x) = omega (arith, q, less) in
+        let n = ap (λ (j : ℕ). most_to line t (x ∷ s) j) number in
+        let j = k.limit on in
+        let old = j.number in
+        let more = most_more line (first_entry t s) t (last_number t s) (taken_number t (world_took x)) s (omega (arith, less)) in
+        let hd = head_next t x s no in
+        let st = moved_stops line t s x.event stops j.ahead in
+        record {
+          held = h;
+          is = is;
+          authority = authority_stays line t x s stay.same h.authority (stay.moved a.declared) stay.ends a;
+          number = omega (arith, p, exact, m, n);
+          ahead = omega (arith, hd, st, old, more, exact, p);
+        }
+
+    limit_stays : nat_lt (last_number t s) (taken_number t (world_took x)) ≡ false → LimitIs line t (x ∷ s)
+    limit_stays none =
+        let j = k.limit on in
+        let h = j.held in
+        let a = j.authority in
+        let is = limit_still t x s no none ∙ j.is in
+        let p = held_is h is a in
+        let was = held_was h j.is a in
+        let old = j.number in
+        let most = k.last_most in
+        let m = stay.most (last_number t s) most in
+        let q = number_next t x s no on in
+        let number : last_number t (x ∷ s) ≡ last_number t s = grind (arith, nat_tests) in
+        let n = ap (λ (i : ℕ). most_to line t (x ∷ s) i) number in
+        let hd = head_next t x s no in
+        let st = moved_stops line t s x.event stops j.ahead in
+        record {
+          held = h;
+          is = is;
+          authority = authority_stays line t x s stay.same h.authority (stay.moved a.declared) stay.ends a;
+          number = omega (arith, p, was, old, m, n);
+          ahead = omega (arith, hd, st, p, was);
+        }
+
+    pub limit_goes : TakenIs line t s (world_took x) → LimitIs line t (x ∷ s)
+    limit_goes taken = by_test (nat_lt (last_number t s) (taken_number t (world_took x))) (limit_takes taken) limit_stays

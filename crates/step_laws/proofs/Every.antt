@@ -1,0 +1,39 @@
+-- Sound is kept by every event.
+use Rattle.std.proofs.Common.{◌≡◌, ℕ, List, [], ◌∷◌, true}
+use Rattle.definitions.specs.declared.event.Event.{Event}
+use Rattle.definitions.specs.Track.{Line}
+use Rattle.definitions.specs.Safe.{IsLineOfOneZone, Kept}
+use Rattle.definitions.specs.Story.{Story}
+use Rattle.definitions.specs.Steps.{effects, story_of}
+use Rattle.motion_laws.proofs.Admitted.{Admitted, admitted}
+use Rattle.motion_laws.proofs.Motion.{Timed, motion_start, motion_step}
+use Rattle.motion_laws.proofs.Times.{timed_step, timed_story}
+use Rattle.sound_laws.proofs.Sound.{Sound}
+use Rattle.step_laws.proofs.Authorized_step.{authorized_start, authorized_step, ends_grow}
+use Rattle.front_laws.proofs.Reports.{reports_start, reports_step}
+use Rattle.front_laws.proofs.Front_step.{fronts_start, fronts_step}
+
+pub sound_start : (line : Line) (t : ℕ) → Sound line t []
+sound_start line t = record {
+  motion = motion_start t;
+  authorized = authorized_start line t;
+  reports = reports_start line t;
+  fronts = fronts_start line t;
+}
+
+pub sound_step : (line : Line) (s : Story) (e : Event) → IsLineOfOneZone line → Admitted line s e → Timed s → ((t : ℕ) → Sound line t s) → (t : ℕ) → Sound line t (effects line s e ∷ s)
+sound_step line s e l a timed k t =
+    let motion = motion_step line t s e a (k t).motion in
+    let authorized = authorized_step line s e l a timed k t in
+    record {
+      motion = motion;
+      authorized = authorized;
+      reports = reports_step line s e l a timed k t;
+      fronts = fronts_step line s e l a timed (timed_step line s e a timed) k t motion authorized (ends_grow line s e l a timed k t);
+    }
+
+pub sound_story : (line : Line) (t : ℕ) (es : List Event) → IsLineOfOneZone line → Kept line es → Sound line t (story_of line es)
+unfolding story_of Kept
+sound_story line t [] l k = sound_start line t
+sound_story line t (e ∷ es) l k =
+    sound_step line (story_of line es) e l (admitted line (story_of line es) e k.0) (timed_story line es k.1) (λ u. sound_story line u es l k.1) t

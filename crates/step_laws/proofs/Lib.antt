@@ -1,0 +1,8 @@
+pub mod Auth_issues
+pub mod Auth_takes
+pub mod Auth_requests
+pub mod Auth_taken
+pub mod Auth_limit
+pub mod Auth_parts
+pub mod Authorized_step
+pub mod Every

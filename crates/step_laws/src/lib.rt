@@ -1,0 +1,2 @@
+//! What is sound of a train is kept by every event.
+#![tactic(auto)]

@@ -1,0 +1,10 @@
+use Rattle.std.proofs.Common.{sym, subst}
+use Rattle.definitions.specs.declared.message.Msg.TheVariants as msg
+use Rattle.world_sim.specs.World.{IsWorldOn}
+use Rattle.world_sim.proofs.Stays.{take_stays}
+use Rattle.world_sim.proofs.world.World.take.Goals as goal
+
+pub returns-in-Some-clause-on : goal.returns-in-Some-clause-on
+returns-in-Some-clause-on c =
+    subst (IsWorldOn c.args.line.now) (sym c.take_auth.ensures.next)
+    (take_stays c.args.line.now c.args.self.now c.args.from (msg.Auth c.in-Auth.train c.in-Auth.number c.in-Auth.mark c.in-Auth.path) c.requires.on)
