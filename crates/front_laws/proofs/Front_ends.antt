@@ -10,10 +10,11 @@ use Rattle.definitions.specs.Track.{Line}
 use Rattle.definitions.specs.Story.{Entry as Made, Story}
 use Rattle.definitions.specs.Control.{grants_entry, controls, asked_facts, known_facts}
 use Rattle.definitions.specs.Fronts.{possible_front, fronts_taken, fronts_behind, is_used, least_rear}
+use Rattle.definitions.specs.Fold.{account}
 use Rattle.plain_state.specs.Plain.{zone_id}
 use Rattle.sound_laws.proofs.Sound.{FrontsAre, Controlled}
-use Rattle.front_laws.proofs.Front_numbers.{grown_to, fronts_unused, fronts_left, fronts_kept, least_rear_is}
-use Rattle.front_laws.proofs.Front_moves.{fronts_granted, fronts_idle, fronts_acted}
+use Rattle.front_laws.proofs.Front_numbers.{takes_by, grown_to, fronts_unused, fronts_left, fronts_kept, least_rear_is}
+use Rattle.front_laws.proofs.Entries.{fronts_granted, fronts_idle, fronts_acted}
 use Rattle.front_laws.proofs.Front_entry.{known_long}
 
 -- a test that passes two ranges, neither of them empty, passes one
@@ -42,7 +43,7 @@ pub ends_entered : (line : Line) (t : ℕ) (x : Made) (s : Story) (g : FrontsAre
     → (g.lo ≡ (asked_facts x.took).long) × (g.hi ≡ (asked_facts x.took).long)
 ends_entered line t x s g h =
     let n = (asked_facts x.took).long in
-    ends_once line t (x ∷ s) g (λ p. nat_eq p n) n n (λ p. fronts_granted line (zone_id line) t x s p h) (record { is = λ p. alone p n }) (omega arith)
+    ends_once line t (x ∷ s) g (λ p. nat_eq p n) n n (λ p. fronts_granted line t x s (zone_id line) p h) (record { is = λ p. alone p n }) (omega arith)
   where
     alone : (p n : ℕ) → nat_eq p n ≡ (nat_le n p && nat_le p n)
     alone p n = grind (arith, nat_tests)
@@ -51,19 +52,19 @@ module _ (line : Line) (t : ℕ) (x : Made) (s : Story) (f : FrontsAre line t s)
   -- an event that is no step of the zone leaves them
   pub ends_idle : nat_eq x.actor (zone_id line) ≡ false → (g.lo ≡ f.lo) × (g.hi ≡ f.hi)
   ends_idle idle =
-      ends_once line t (x ∷ s) g (possible_front line (zone_id line) t s) f.lo f.hi (λ p. fronts_idle line (zone_id line) t x s p none idle) (record { is = f.is }) f.ordered
+      ends_once line t (x ∷ s) g (possible_front line (zone_id line) t s) f.lo f.hi (λ p. fronts_idle line t x s (zone_id line) p idle) (record { is = f.is }) f.ordered
 
   -- a message that the zone takes
   module _ (from : ℕ) (m : Msg) (controlled : controls (zone_id line) t s ≡ true) (acts : nat_eq x.actor (zone_id line) ≡ true) (took : x.took ≡ Some (from, m)) where
     behind : (p : ℕ) → possible_front line (zone_id line) t (x ∷ s) p ≡ fronts_behind line (zone_id line) t s (possible_front line (zone_id line) t s) m p
     behind p =
-        fronts_acted line (zone_id line) t x s p none acts controlled
+        fronts_acted line t x s (zone_id line) p none acts controlled
         ∙ ap (λ (o : Option (ℕ × Msg)). fronts_taken line (zone_id line) t s (possible_front line (zone_id line) t s) o p) took
 
     -- where it is no used report, they grow
-    pub ends_grown : is_used line (zone_id line) t s (possible_front line (zone_id line) t s) m ≡ false → (g.lo ≡ f.lo) × (g.hi ≡ grown_to line t s m f.hi)
-    ends_grown h =
-        let n = fronts_unused line t s m f h in
+    pub ends_grown : is_used line (zone_id line) t s (possible_front line (zone_id line) t s) m ≡ false → takes_by t (account line t s) m ≡ false → (g.lo ≡ f.lo) × (g.hi ≡ grown_to line t s m f.hi)
+    ends_grown h no_taker =
+        let n = fronts_unused line t s m f h no_taker in
         ends_once line t (x ∷ s) g (fronts_behind line (zone_id line) t s (possible_front line (zone_id line) t s) m) f.lo (grown_to line t s m f.hi) behind n.is n.ordered
 
   -- where it is a used report, they grow, and the report narrows them

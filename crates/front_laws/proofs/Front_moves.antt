@@ -1,4 +1,4 @@
--- The recursions of the possible fronts, of Now and of control, one entry further; and what the entry of a train finds.
+-- The recursions of what is known, of Now and of control, one entry further; and what the entry of a train finds.
 use Rattle.std.proofs.Common.{◌≡◌, ℕ, zero, suc, max, List, [], ◌∷◌, Option, Some, None, Bool, true, false, ◌&&◌, refl, sym, ◌∙◌, ap, subst}
 use Rattle.std.proofs.lemmas.Bool.{eqb-true}
 use Rattle.std.specs.Prelude.{nat_eq}
@@ -13,17 +13,12 @@ use Rattle.definitions.specs.Track.{Line, seg_len}
 use Rattle.definitions.specs.Story.{Entry as Made, Story}
 use Rattle.definitions.specs.World.{is_auth, enters}
 use Rattle.definitions.specs.Control.{grants_entry, asks_entry, controls, knows, knows_most, asked_facts, known_facts, now_of, took_time}
-use Rattle.definitions.specs.Fronts.{possible_front, fronts_taken}
 use Rattle.definitions.specs.Authority.{holder_of}
 use Rattle.definitions.specs.Steps.{zone_entry, takes, taking, message, effects}
 use Rattle.motion_laws.proofs.Notions.{both, ever_same}
 use Rattle.motion_laws.proofs.Moves.{effect_event}
 
 -- The recursions.
-
-pub fronts_granted : (line : Line) (z t : ℕ) (x : Made) (s : Story) (f : ℕ) → grants_entry z t x ≡ true → possible_front line z t (x ∷ s) f ≡ nat_eq f (asked_facts x.took).long
-unfolding possible_front
-fronts_granted line z t x s f h = rw h refl
 
 pub known_granted : (z t : ℕ) (x : Made) (s : Story) → grants_entry z t x ≡ true → known_facts z t (x ∷ s) ≡ asked_facts x.took
 unfolding known_facts
@@ -32,15 +27,6 @@ known_granted z t x s h = rw h refl
 pub known_same : (z t : ℕ) (x : Made) (s : Story) → grants_entry z t x ≡ false → known_facts z t (x ∷ s) ≡ known_facts z t s
 unfolding known_facts
 known_same z t x s h = rw h refl
-
-pub fronts_idle : (line : Line) (z t : ℕ) (x : Made) (s : Story) (f : ℕ) → grants_entry z t x ≡ false → nat_eq x.actor z ≡ false → possible_front line z t (x ∷ s) f ≡ possible_front line z t s f
-unfolding possible_front
-fronts_idle line z t x s f h n = rw (h, n) refl
-
-pub fronts_acted : (line : Line) (z t : ℕ) (x : Made) (s : Story) (f : ℕ) → grants_entry z t x ≡ false → nat_eq x.actor z ≡ true → controls z t s ≡ true
-    → possible_front line z t (x ∷ s) f ≡ fronts_taken line z t s (possible_front line z t s) x.took f
-unfolding possible_front
-fronts_acted line z t x s f h y c = rw (h, y, c) refl
 
 pub now_idle : (z : ℕ) (x : Made) (s : Story) → nat_eq x.actor z ≡ false → now_of z (x ∷ s) ≡ now_of z s
 unfolding now_of

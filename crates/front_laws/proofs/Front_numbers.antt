@@ -1,5 +1,5 @@
 -- The ends of the possible fronts as numbers, and what a message that the zone takes makes of them.
-use Rattle.std.proofs.Common.{◌≡◌, ℕ, ◌+◌, ◌-◌, ◌≤◌, min, take, Bool, true, false, ap, arith}
+use Rattle.std.proofs.Common.{◌≡◌, ℕ, ◌+◌, ◌-◌, ◌≤◌, ◌&&◌, min, take, Bool, true, false, refl, subst, ap, arith}
 use Rattle.std.specs.Prelude.{ℤ, pos, ◌+ℤ◌}
 use Rattle.track_points.specs.declared.ids.TrainId.{TrainId}
 use Rattle.track_points.specs.Points.{total}
@@ -17,7 +17,14 @@ use Rattle.definitions.specs.Fronts.{possible_front, grown_fronts, fronts_behind
 use Rattle.plain_state.specs.Plain.{zone_id}
 use Rattle.plain_state.specs.Zone.{least_kept, greatest_kept, narrowed}
 use Rattle.sound_laws.proofs.Sound.{FrontsAre}
-use Rattle.front_laws.proofs.Front_ranges.{range_first, range_last, range_grown, range_narrowed}
+use Rattle.std.specs.Int.Signed.{le_z}
+use Rattle.std.specs.Prelude.{nat_eq}
+use Rattle.track_points.proofs.Some.{by_test}
+use Rattle.definitions.specs.World.{journey}
+use Rattle.definitions.specs.Account.{Account, takes_shrink}
+use Rattle.definitions.specs.Fold.{account, by_answer}
+use Rattle.front_laws.proofs.Exact.{report_ends, report_ruled}
+use Rattle.front_laws.proofs.Ranges.{range_first, range_last, range_grown}
 
 -- fronts of a train, as a test, with these ends: a range, its first and its last number, and the rear at the first
 pub record Numbered (line : Line) (t : ℕ) (s : Story) (test : ℕ → Bool) (lo hi : ℕ) : Type 0 where
@@ -64,15 +71,31 @@ fronts_grown line t s m f =
     let o = f.ordered in
     let w = f.within in
     numbered line t s (grown_fronts line z t s (possible_front line z t s) m) f.lo (grown_to line t s m f.hi)
-    (range_grown (possible_front line z t s) (record { lo = f.lo; hi = f.hi; at = 0 })
+    (range_grown (possible_front line z t s) f.lo f.hi
     (farthest_move (known_facts z t s).speed (now_with z s m - now_of z s)) (longest_end line t s) (record { is = f.is }) o w)
     (omega (arith, o, w)) (omega arith)
 
+-- the message is the answer that takes the shrink
+abbrev pub takes_by : ℕ → Account → Msg → Bool
+takes_by t v (msg.Answer u time number taken) = nat_eq u.0 t && takes_shrink number taken v
+takes_by t v _ = false
+
+unanswered : (line : Line) (t : ℕ) (s : Story) (m : Msg) (fronts : ℕ → Bool) → takes_by t (account line t s) m ≡ false
+    → by_answer (seg_len line) (journey line t s) t (longest_end line t s) (account line t s) fronts m ≡ fronts
+unanswered line t s (msg.Answer u time number taken) fronts n = rw n refl
+unanswered line t s (msg.Report u time mark offset integrity) fronts n = refl
+unanswered line t s (msg.Time time u) fronts n = refl
+unanswered line t s (msg.EntryAsk u time long error speed equipped step) fronts n = refl
+unanswered line t s (msg.Ask u time asked to) fronts n = refl
+unanswered line t s (msg.Auth u number mark path) fronts n = refl
+
 -- a message that is no used report lets the fronts grow, and does nothing else to them
 pub fronts_unused : (line : Line) (t : ℕ) (s : Story) (m : Msg) (f : FrontsAre line t s)
-    → is_used line (zone_id line) t s (possible_front line (zone_id line) t s) m ≡ false
+    → is_used line (zone_id line) t s (possible_front line (zone_id line) t s) m ≡ false → takes_by t (account line t s) m ≡ false
     → Numbered line t s (fronts_behind line (zone_id line) t s (possible_front line (zone_id line) t s) m) f.lo (grown_to line t s m f.hi)
-fronts_unused line t s m f h = rw h (fronts_grown line t s m f)
+fronts_unused line t s m f h n =
+    let u = unanswered line t s m (grown_fronts line (zone_id line) t s (possible_front line (zone_id line) t s) m) n in
+    rw (h, u) (fronts_grown line t s m f)
 
 -- A used report.
 
@@ -105,14 +128,26 @@ fronts_kept line t s u time mark offset integrity f h =
     let z = zone_id line in
     let m = msg.Report u time mark offset integrity in
     let g = fronts_grown line t s m f in
-    let n = range_narrowed (grown_fronts line z t s (possible_front line z t s) m) (record { lo = f.lo; hi = grown_to line t s m f.hi; at = now_with z s m })
-    (named_place line t s mark offset) (known_facts z t s).error (moved_since line t s m time) integrity (longest_end line t s) g.is g.ordered g.within in
+    let n = report_ruled (named_place line t s mark offset) (known_facts z t s).error (moved_since line t s m time) integrity f.lo (grown_to line t s m f.hi) (longest_end line t s)
+    (grown_fronts line z t s (possible_front line z t s) m) g.is g.ordered g.within in
+    let e = ends_same f.lo (grown_to line t s m f.hi) (now_with z s m) (least_kept f.lo (named_place line t s mark offset) (known_facts z t s).error integrity)
+    (greatest_kept (grown_to line t s m f.hi) (named_place line t s mark offset) (known_facts z t s).error (moved_since line t s m time)) in
+    let e0 = e.0 in
+    let e1 = e.1 in
+    let o = n.ordered in
     let left = fronts_left line t s m f.lo f.hi time mark offset integrity in
     let a = n.least in
     let b = n.most in
     let w = g.within in
     rw h (record {
-      numbers = numbered line t s (reported line z t s (grown_fronts line z t s (possible_front line z t s) m) m) left.lo left.hi n.is n.ordered (omega (arith, b, w));
-      least = a;
-      most = b;
+      numbers = numbered line t s (reported line z t s (grown_fronts line z t s (possible_front line z t s) m) m) left.lo left.hi
+          (subst (λ (x : ℕ). IsRange (reported line z t s (grown_fronts line z t s (possible_front line z t s) m) m) x left.hi) e0
+          (subst (λ (x : ℕ). IsRange (reported line z t s (grown_fronts line z t s (possible_front line z t s) m) m) (report_ends (named_place line t s mark offset) (known_facts z t s).error (moved_since line t s m time) integrity f.lo (grown_to line t s m f.hi)).lo x) e1 n.is))
+          (omega (arith, o, e0, e1)) (omega (arith, b, w, e1));
+      least = omega (arith, a, e0);
+      most = omega (arith, b, e1);
     })
+  where
+    ends_same : (lo hi at : ℕ) (a b : ℤ) → ((narrowed (record { lo = lo; hi = hi; at = 0 }) a b).lo ≡ (narrowed (record { lo = lo; hi = hi; at = at }) a b).lo)
+        × ((narrowed (record { lo = lo; hi = hi; at = 0 }) a b).hi ≡ (narrowed (record { lo = lo; hi = hi; at = at }) a b).hi)
+    ends_same lo hi at a b = by_test (le_z a b) (λ y. rw y (refl, refl)) (λ n. rw n (refl, refl))

@@ -1,7 +1,11 @@
+pub mod Entries
+pub mod Ranges
+pub mod Shifted
+pub mod Exact
+pub mod Least_front
 pub mod Reported
 pub mod Heads
 pub mod Reports
-pub mod Front_ranges
 pub mod Front_numbers
 pub mod Front_moves
 pub mod Front_entry

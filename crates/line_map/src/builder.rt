@@ -23,7 +23,7 @@ pub enum LineFault {
     /// at most once (6), and the ends of a joint belong to different segments (8). Of the finished line: there is a
     /// zone (1), every end is used (7), and the other end of a portal's segment is in a joint with a segment of the
     /// same zone (12).
-    #[error("rule {0} is broken")]
+    #[error("a rule of the line is broken")]
     Rule(u8),
 }
 

@@ -5,22 +5,12 @@ ghost use Rattle.definitions.specs.Track.{is_zone, is_segment, uses, end_eq, joi
 ghost use Rattle.definitions.specs.Rules.{is_any_zone, is_any_segment, other_end};
 
 use definitions::item::{End, Item};
-use track_points::Dir;
+use track_points::{Dir, same_dir};
 
 pub fn same_end(a: End, b: End) -> bool
     ensures { result ≡ end_eq a b }
 {
-    a.segment == b.segment
-        && match a.dir {
-            Dir::Up => match b.dir {
-                Dir::Up => true,
-                Dir::Down => false,
-            },
-            Dir::Down => match b.dir {
-                Dir::Up => false,
-                Dir::Down => true,
-            },
-        }
+    a.segment == b.segment && same_dir(a.dir, b.dir)
 }
 
 pub fn turned(dir: Dir) -> Dir

@@ -16,7 +16,7 @@ use std::marker::Model;
 use track_points::{DirSeg, SegId, ZoneId};
 
 /// What is behind the exit end of a step.
-#[derive(Clone, Copy, PartialEq, Eq, Debug)]
+#[derive(Clone, Copy)]
 pub enum After {
     /// One step, which comes in at the other end of the joint.
     Plain(DirSeg),

@@ -18,8 +18,8 @@ use Rattle.definitions.specs.Track.{Line, seg_len, track_from}
 use Rattle.definitions.specs.Ways.{PlainWay, chained, path_in_range, way_between}
 use Rattle.definitions.specs.Story.{Entry as Made, Story, greatest_in, greatest_issued}
 use Rattle.definitions.specs.World.{Authority, Facts, first_entry, auth_number}
-use Rattle.definitions.specs.Control.{grants_entry, controls, known_facts, now_of, now_with, counted, last_issued}
-use Rattle.definitions.specs.Longest.{longest_end, longest_route}
+use Rattle.definitions.specs.Control.{grants_entry, controls, known_facts, now_of, now_with, last_issued}
+use Rattle.definitions.specs.Longest.{counted, longest_end, longest_route}
 use Rattle.definitions.specs.Fronts.{report_time, silent_by}
 use Rattle.definitions.specs.Limit.{Reach, further, asked_way, path_of, reach_from, barring, limit}
 use Rattle.definitions.specs.Steps.{Effect, grant, path_to}
@@ -39,6 +39,7 @@ use Rattle.sound_laws.proofs.Sound.{track, mark_place, track_end, most_to, path_
 use Rattle.front_laws.proofs.Front_moves.{known_same}
 use Rattle.front_laws.proofs.Front_numbers.{grown_to}
 use Rattle.front_laws.proofs.Front_ends.{ends_grown}
+use Rattle.authority_laws.proofs.Unshrunk.{counted_unanswered}
 use Rattle.link_laws.proofs.World_trains.{mapped}
 use Rattle.link_laws.proofs.Zone_trains.{way_change, way_other, ids_change, distinct_change}
 use Rattle.link_laws.proofs.Zone_values.{Grown}
@@ -47,7 +48,7 @@ use Rattle.link_laws.proofs.Way_marks.{way_number}
 use Rattle.link_laws.proofs.Heeded.{way_steps}
 use Rattle.link_laws.proofs.Kept_train.{kept_train}
 use Rattle.link_laws.proofs.Longer.{kept_lengthened, route_reaches, route_kept, route_steps}
-use Rattle.link_laws.proofs.Unissued.{NoAuth, end_same, controls_same, counted_none}
+use Rattle.link_laws.proofs.Unissued.{NoAuth, end_same, controls_same}
 use Rattle.link_laws.proofs.Zone_idle.{first_same}
 use Rattle.link_laws.proofs.Zone_moves.{zone_made, ZoneMoves}
 use Rattle.link_laws.proofs.Zone_behind.{grown_is, now_is, acts, controlled_still, report_unused, steps_same, zone_silent}
@@ -120,9 +121,9 @@ module _ (line : Line) (z number : ℕ) (u : TrainId) (time : ℕ) (steps : Arra
         let b = between_within len (longest_route line t s) (lo - f.long) (longest_end line t s) order room in
         let z0 = zone_id line in
         let v = way_of line t s one.valid (sound t) c in
-        let reach = reach_granted line (controls z0 t s && nat_lt 0 (counted t s)) (silent_by line (report_time line z0 t s) (now_with z0 s ask_message)) w.path steps.items to (barring line z0 t s) p (omega (arith, e, b)) in
-        let is : limit line z0 t s (now_with z0 s ask_message) steps.items to ≡ reach_from line (controls z0 t s && nat_lt 0 (counted t s)) (silent_by line (report_time line z0 t s) (now_with z0 s ask_message)) (Some w.path) steps.items to (barring line z0 t s) =
-        ap (λ (o : Option PlainWay). reach_from line (controls z0 t s && nat_lt 0 (counted t s)) (silent_by line (report_time line z0 t s) (now_with z0 s ask_message)) (path_of o) steps.items to (barring line z0 t s)) v.is in
+        let reach = reach_granted line (controls z0 t s && nat_lt 0 (counted line t s)) (silent_by line (report_time line z0 t s) (now_with z0 s ask_message)) w.path steps.items to (barring line z0 t s) p (omega (arith, e, b)) in
+        let is : limit line z0 t s (now_with z0 s ask_message) steps.items to ≡ reach_from line (controls z0 t s && nat_lt 0 (counted line t s)) (silent_by line (report_time line z0 t s) (now_with z0 s ask_message)) (Some w.path) steps.items to (barring line z0 t s) =
+        ap (λ (o : Option PlainWay). reach_from line (controls z0 t s && nat_lt 0 (counted line t s)) (silent_by line (report_time line z0 t s) (now_with z0 s ask_message)) (path_of o) steps.items to (barring line z0 t s)) v.is in
         subst (λ (r : Reach). end_place len w.path + r.distance ≤ total len (asked_way w.path.steps.items steps.items)) (sym is) reach
 
     none : grants_entry (zone_id line) u.0 (zone_made z number ask_message given) ≡ false
@@ -178,21 +179,21 @@ module _ (line : Line) (z number : ℕ) (u : TrainId) (time : ℕ) (steps : Arra
       ask_own =
           let v = way_of line t s one.valid (sound t) c in
           let here = acts line z number ask_message given s one zone t (sound t) after in
-          let ends = ends_grown line t x s ((sound t).fronts c) (after.fronts c2) none 0 ask_message c here refl refl in
+          let ends = ends_grown line t x s ((sound t).fronts c) (after.fronts c2) none 0 ask_message c here refl refl refl in
           let reaches = route_reaches line t (x ∷ s) one.valid after c2 a given_is.authority given_end in
           let far = given_farther in
           let rep = report_unused line (zone_id line) t x s none refl in
-          let cnt = counted_none t x s refl in
+          let cnt = counted_unanswered line t x s (sound t).authorized.unshrunk refl in
           route_kept line t (x ∷ s) one.valid after c2 a given_is.authority given_end
-          ∙ (ap (λ (q : Facts). Some (kept_train len t q route (after.fronts c2).lo (after.fronts c2).hi (longest_end line t (x ∷ s)) (now_of (zone_id line) (x ∷ s)) (report_time line (zone_id line) t (x ∷ s)) (last_issued t (x ∷ s)) (counted t (x ∷ s)))) (known_same (zone_id line) t x s none)
-          ∙ (ap (λ (q : ℕ). Some (kept_train len t f route q (after.fronts c2).hi (longest_end line t (x ∷ s)) (now_of (zone_id line) (x ∷ s)) (report_time line (zone_id line) t (x ∷ s)) (last_issued t (x ∷ s)) (counted t (x ∷ s)))) ends.0
-          ∙ (ap (λ (q : ℕ). Some (kept_train len t f route lo q (longest_end line t (x ∷ s)) (now_of (zone_id line) (x ∷ s)) (report_time line (zone_id line) t (x ∷ s)) (last_issued t (x ∷ s)) (counted t (x ∷ s)))) ends.1
-          ∙ (ap (λ (q : ℕ). Some (kept_train len t f route lo hi q (now_of (zone_id line) (x ∷ s)) (report_time line (zone_id line) t (x ∷ s)) (last_issued t (x ∷ s)) (counted t (x ∷ s)))) far
-          ∙ (ap (λ (q : ℕ). Some (kept_train len t f route lo hi (longest_end line t s + d) q (report_time line (zone_id line) t (x ∷ s)) (last_issued t (x ∷ s)) (counted t (x ∷ s)))) (now_is line z number ask_message given s one zone t (sound t) after)
-          ∙ (ap (λ (q : ℕ). Some (kept_train len t f route lo hi (longest_end line t s + d) (now_with (zone_id line) s ask_message) q (last_issued t (x ∷ s)) (counted t (x ∷ s)))) rep
-          ∙ (ap (λ (q : ℕ). Some (kept_train len t f route lo hi (longest_end line t s + d) (now_with (zone_id line) s ask_message) (report_time line (zone_id line) t s) q (counted t (x ∷ s)))) given_last
+          ∙ (ap (λ (q : Facts). Some (kept_train len t q route (after.fronts c2).lo (after.fronts c2).hi (longest_end line t (x ∷ s)) (now_of (zone_id line) (x ∷ s)) (report_time line (zone_id line) t (x ∷ s)) (last_issued t (x ∷ s)) (counted line t (x ∷ s)))) (known_same (zone_id line) t x s none)
+          ∙ (ap (λ (q : ℕ). Some (kept_train len t f route q (after.fronts c2).hi (longest_end line t (x ∷ s)) (now_of (zone_id line) (x ∷ s)) (report_time line (zone_id line) t (x ∷ s)) (last_issued t (x ∷ s)) (counted line t (x ∷ s)))) ends.0
+          ∙ (ap (λ (q : ℕ). Some (kept_train len t f route lo q (longest_end line t (x ∷ s)) (now_of (zone_id line) (x ∷ s)) (report_time line (zone_id line) t (x ∷ s)) (last_issued t (x ∷ s)) (counted line t (x ∷ s)))) ends.1
+          ∙ (ap (λ (q : ℕ). Some (kept_train len t f route lo hi q (now_of (zone_id line) (x ∷ s)) (report_time line (zone_id line) t (x ∷ s)) (last_issued t (x ∷ s)) (counted line t (x ∷ s)))) far
+          ∙ (ap (λ (q : ℕ). Some (kept_train len t f route lo hi (longest_end line t s + d) q (report_time line (zone_id line) t (x ∷ s)) (last_issued t (x ∷ s)) (counted line t (x ∷ s)))) (now_is line z number ask_message given s one zone t (sound t) after)
+          ∙ (ap (λ (q : ℕ). Some (kept_train len t f route lo hi (longest_end line t s + d) (now_with (zone_id line) s ask_message) q (last_issued t (x ∷ s)) (counted line t (x ∷ s)))) rep
+          ∙ (ap (λ (q : ℕ). Some (kept_train len t f route lo hi (longest_end line t s + d) (now_with (zone_id line) s ask_message) (report_time line (zone_id line) t s) q (counted line t (x ∷ s)))) given_last
           ∙ (ap (λ (q : ℕ). Some (kept_train len t f route lo hi (longest_end line t s + d) (now_with (zone_id line) s ask_message) (report_time line (zone_id line) t s) (last_issued t s + 1) q)) cnt
-          ∙ (ap (λ (q : ZoneTrain). Some q) (kept_lengthened line (first_entry t s) len steps.items t f (longest_route line t s) route lo hi (longest_end line t s) d (now_with (zone_id line) s ask_message) (report_time line (zone_id line) t s) (last_issued t s) (counted t s)
+          ∙ (ap (λ (q : ZoneTrain). Some q) (kept_lengthened line (first_entry t s) len steps.items t f (longest_route line t s) route lo hi (longest_end line t s) d (now_with (zone_id line) s ask_message) (report_time line (zone_id line) t s) (last_issued t s) (counted line t s)
           v.front (route_front route_is) order room (omega (arith, reaches, far)) (sym given_is.authority.on_track) asked_some asked_within)
           ∙ sym (ap (λ (q : Option ZoneTrain). mapped (lengthened len steps.items d) q) (grown_is line ask_message s t one (sound t) c)))))))))))
         where

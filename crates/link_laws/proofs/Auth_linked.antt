@@ -25,12 +25,13 @@ use Rattle.plain_state.specs.Plain.{Plain, by_world as world_next}
 use Rattle.plain_state.specs.Relation.{kept_authority, head_of, world_of, world_train, Linked}
 use Rattle.motion_laws.proofs.Notions.{entered_same}
 use Rattle.motion_laws.proofs.Issued.{AllIn, issued_all}
-use Rattle.sound_laws.proofs.Sound.{track_end, AuthIs, AuthTrue, Sound}
-use Rattle.front_laws.proofs.Heads.{on_controls, place_on}
+use Rattle.journey_laws.proofs.Journey.{journey_still}
+use Rattle.sound_laws.proofs.Sound.{AuthIs, AuthTrue, Sound}
+use Rattle.front_laws.proofs.Heads.{on_controls}
 use Rattle.link_laws.proofs.World_trains.{mapped, find_change, find_other, length_change}
 use Rattle.link_laws.proofs.Unissued.{NoAuth}
 use Rattle.link_laws.proofs.World_moves.{head_still, facts_still, entry_still, world_same, as_many, unasked_same, off_same, authorized_same, world_linked}
-use Rattle.link_laws.proofs.Limits.{end_on_journey, off_limit}
+use Rattle.link_laws.proofs.Limits.{off_limit}
 use Rattle.link_laws.proofs.Head_on.{head_on}
 use Rattle.link_laws.proofs.Heeded.{new_ahead}
 use Rattle.link_laws.proofs.World_linked.{clock_still}
@@ -100,7 +101,7 @@ module _ (line : Line) (from number : ℕ) (u : TrainId) (n mark : ℕ) (path : 
         ∙ rw (facts_still t x s refl, entry_still t x s refl, kept, off2, limit, limit2, head_still t x s refl refl, last) refl)
 
     -- on the line
-    module _ (on : entered t s ≡ true) (sound : Sound line t s) (one : IsLineOfOneZone line) (is : AuthIs line t s n (record { mark = mark; path = path })) (ahead : last_number t s ≤ n → head t s ≤ track_end line t s (record { mark = mark; path = path })) where
+    module _ (on : entered t s ≡ true) (sound : Sound line t s) (one : IsLineOfOneZone line) (is : AuthIs line t s n (record { mark = mark; path = path })) (ahead : last_number t s ≤ n → head t s ≤ authority_end (seg_len line) (journey line t s) (record { mark = mark; path = path })) where
       abbrev h : Head
       h = record { step = last_step (journey line t s); mark = length (journey line t s) - 1; offset = head_offset line t s }
 
@@ -117,7 +118,7 @@ module _ (line : Line) (from number : ℕ) (u : TrainId) (n mark : ℕ) (path : 
       limit_old less = rw (on, its, less) refl
 
       journey_same : journey line t (take_made 0 from number (msg.Auth u n mark path) y ∷ s) ≡ journey line t s
-      journey_same = rw (entry_still t x s refl, head_still t x s refl refl) refl
+      journey_same = journey_still line t x s refl
 
       room_next : (if nat_lt (last_number t s) n then room_on (seg_len line) mark path h else (limit_place line t s - head t s))
           ≡ limit_place line t (take_made 0 from number (msg.Auth u n mark path) y ∷ s) - head t (take_made 0 from number (msg.Auth u n mark path) y ∷ s)
@@ -126,13 +127,10 @@ module _ (line : Line) (from number : ℕ) (u : TrainId) (n mark : ℕ) (path : 
           let same = head_still t x s refl refl in
           by_test (nat_lt (last_number t s) n)
           (λ less.
-          let p = place_on line t s one.valid sound c on in
-          let b = is.authority.behind in
           let o = head_on line t s one.valid sound c on a is.authority (ahead (grind (arith, nat_tests))) in
           let q = o.place in
-          let e = end_on_journey line t s one.valid sound c a is.authority (omega (arith, p, b)) in
-          let limit : limit_place line t (x ∷ s) ≡ track_end line t s a =
-          ap (λ (k : Option HeldPath). held_end len (journey line t (x ∷ s)) k) (limit_new less) ∙ (ap (λ (xs : List DirSeg). authority_end len xs a) journey_same ∙ e) in
+          let limit : limit_place line t (x ∷ s) ≡ authority_end len (journey line t s) a =
+          ap (λ (k : Option HeldPath). held_end len (journey line t (x ∷ s)) k) (limit_new less) ∙ ap (λ (xs : List DirSeg). authority_end len xs a) journey_same in
           rw less (omega (arith, limit, same, q)))
           (λ less.
           let limit : limit_place line t (x ∷ s) ≡ limit_place line t s =
@@ -145,7 +143,7 @@ module _ (line : Line) (from number : ℕ) (u : TrainId) (n mark : ℕ) (path : 
           ap (λ (k : Option HeldPath). kept_authority len k) authority_next ∙ kept_same len (entry_authority t s) (taken_entry t (Some (from, m))) some in
           let on2 : entered t (x ∷ s) ≡ true = entered_same t x s refl ∙ on in
           let there : head_of line t s ≡ Some h = rw on refl in
-          let there2 : head_of line t (x ∷ s) ≡ Some h = rw (on2, entry_still t x s refl, head_still t x s refl refl) refl in
+          let there2 : head_of line t (x ∷ s) ≡ Some h = rw (on2, journey_same, head_still t x s refl refl) refl in
           ap (λ (k : Option Head). mapped (took_auth len from n mark path) (world_of t (facts_of t s) (first_entry t s) (kept_authority len (entry_authority t s)) k (limit_place line t s - head t s) (last_number t s))) there
           ∙ (mapped_on t len from n mark path (facts_of t s) (first_entry t s) (kept_authority len (entry_authority t s)) h (limit_place line t s - head t s) (last_number t s)
           ∙ (ap (λ (r : ℕ). world_of t (facts_of t s) (first_entry t s) (kept_authority len (entry_authority t s)) (Some h) r (max (last_number t s) n)) room_next

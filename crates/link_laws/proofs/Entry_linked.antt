@@ -15,8 +15,8 @@ use Rattle.definitions.specs.Track.{Line, seg_len}
 use Rattle.definitions.specs.Ways.{steps_behind}
 use Rattle.definitions.specs.Story.{Entry as Made, Story, greatest_in, greatest_issued}
 use Rattle.definitions.specs.World.{Authority, Facts, first_entry, auth_number}
-use Rattle.definitions.specs.Control.{grants_entry, asker, controls, placed, known_facts, known_trains, now_of, now_with, counted, last_issued}
-use Rattle.definitions.specs.Longest.{longest_end, longest_route}
+use Rattle.definitions.specs.Control.{grants_entry, asker, controls, placed, known_facts, known_trains, now_of, now_with, last_issued}
+use Rattle.definitions.specs.Longest.{counted, longest_end, longest_route}
 use Rattle.definitions.specs.Fronts.{report_time}
 use Rattle.definitions.specs.Steps.{Effect, entry_path, enter_or_held}
 use Rattle.definitions.specs.Safe.{IsLineOfOneZone}
@@ -28,6 +28,7 @@ use Rattle.motion_laws.proofs.Notions.{ever_now}
 use Rattle.motion_laws.proofs.Issued.{AllIn, AllIssued}
 use Rattle.way_laws.proofs.Track.{track_none}
 use Rattle.sound_laws.proofs.Sound.{track, mark_place, track_end, most_to, AuthIs, Sound}
+use Rattle.front_laws.proofs.Entries.{counted_else}
 use Rattle.front_laws.proofs.Front_moves.{known_granted, now_acted}
 use Rattle.front_laws.proofs.Front_entry.{known_long}
 use Rattle.front_laws.proofs.Front_ends.{ends_entered}
@@ -37,7 +38,7 @@ use Rattle.link_laws.proofs.Zone_values.{Grown}
 use Rattle.link_laws.proofs.Heeded.{way_steps}
 use Rattle.link_laws.proofs.Kept_train.{kept_train}
 use Rattle.link_laws.proofs.Longer.{route_kept, route_steps}
-use Rattle.link_laws.proofs.Unissued.{NoAuth, end_same, controls_same, counted_elsewhere}
+use Rattle.link_laws.proofs.Unissued.{NoAuth, end_same, controls_same}
 use Rattle.link_laws.proofs.Zone_idle.{no_train, first_same}
 use Rattle.link_laws.proofs.Zone_moves.{zone_made, ZoneMoves}
 use Rattle.link_laws.proofs.Zone_behind.{steps_same, zone_silent}
@@ -109,11 +110,11 @@ module _ (line : Line) (z number : ℕ) (u : TrainId) (time long error speed : �
   unfolding greatest_in
   entered_few v = by_test (nat_eq u.0 v) (λ b. rw b (omega arith)) (λ b. rw b (omega arith))
 
-  entered_counted : counted u.0 (zone_made z number m entered_effect ∷ s) ≡ 0
+  entered_counted : counted line u.0 (zone_made z number m entered_effect ∷ s) ≡ 0
   entered_counted =
       let c = (sound t).authorized.counted_most in
       let n = none_before in
-      let e = counted_elsewhere t x s (ap (λ (y : ℕ). controls y t s) zone ∙ fresh) in
+      let e = counted_else line t x s (ap (λ (y : ℕ). controls y t s) zone ∙ fresh) in
       omega (arith, c, n, e)
 
   now_then : now_of (zone_id line) (zone_made z number m entered_effect ∷ s) ≡ now_with (zone_id line) s m
@@ -151,14 +152,14 @@ module _ (line : Line) (z number : ℕ) (u : TrainId) (time long error speed : �
         let same = known_long t (x ∷ s) (known_facts (zone_id line) t (x ∷ s)) ((after t).authorized.controlled c2).facts ∙ ap (λ (q : Facts). q.long) known in
         let n = now_of (zone_id line) (x ∷ s) in
         route_kept line t (x ∷ s) one.valid (after t) c2 a entered_is.authority entered_end
-        ∙ (ap (λ (q : Facts). Some (kept_train len t q (track line t (x ∷ s) (a.mark + length a.path.steps.items)) ((after t).fronts c2).lo ((after t).fronts c2).hi (longest_end line t (x ∷ s)) n (report_time line (zone_id line) t (x ∷ s)) (last_issued t (x ∷ s)) (counted t (x ∷ s)))) known
-        ∙ (ap (λ (q : List DirSeg). Some (kept_train len t f q ((after t).fronts c2).lo ((after t).fronts c2).hi (longest_end line t (x ∷ s)) n (report_time line (zone_id line) t (x ∷ s)) (last_issued t (x ∷ s)) (counted t (x ∷ s)))) entered_route
-        ∙ (ap (λ (q : ℕ). Some (kept_train len t f (step ∷ []) q ((after t).fronts c2).hi (longest_end line t (x ∷ s)) n (report_time line (zone_id line) t (x ∷ s)) (last_issued t (x ∷ s)) (counted t (x ∷ s)))) ends.0
-        ∙ (ap (λ (q : ℕ). Some (kept_train len t f (step ∷ []) long q (longest_end line t (x ∷ s)) n (report_time line (zone_id line) t (x ∷ s)) (last_issued t (x ∷ s)) (counted t (x ∷ s)))) ends.1
-        ∙ (ap (λ (q : ℕ). Some (kept_train len t f (step ∷ []) long long q n (report_time line (zone_id line) t (x ∷ s)) (last_issued t (x ∷ s)) (counted t (x ∷ s)))) entered_at
-        ∙ (ap (λ (q : ℕ). Some (kept_train len t f (step ∷ []) long long (len step.seg.0) n q (last_issued t (x ∷ s)) (counted t (x ∷ s)))) (report_entered line (zone_id line) t x s grants)
-        ∙ (ap (λ (q : ℕ). Some (kept_train len t f (step ∷ []) long long (len step.seg.0) q q (last_issued t (x ∷ s)) (counted t (x ∷ s)))) now_
-        ∙ (ap (λ (q : ℕ). Some (kept_train len t f (step ∷ []) long long (len step.seg.0) (now_with (zone_id line) s m) (now_with (zone_id line) s m) q (counted t (x ∷ s)))) entered_last
+        ∙ (ap (λ (q : Facts). Some (kept_train len t q (track line t (x ∷ s) (a.mark + length a.path.steps.items)) ((after t).fronts c2).lo ((after t).fronts c2).hi (longest_end line t (x ∷ s)) n (report_time line (zone_id line) t (x ∷ s)) (last_issued t (x ∷ s)) (counted line t (x ∷ s)))) known
+        ∙ (ap (λ (q : List DirSeg). Some (kept_train len t f q ((after t).fronts c2).lo ((after t).fronts c2).hi (longest_end line t (x ∷ s)) n (report_time line (zone_id line) t (x ∷ s)) (last_issued t (x ∷ s)) (counted line t (x ∷ s)))) entered_route
+        ∙ (ap (λ (q : ℕ). Some (kept_train len t f (step ∷ []) q ((after t).fronts c2).hi (longest_end line t (x ∷ s)) n (report_time line (zone_id line) t (x ∷ s)) (last_issued t (x ∷ s)) (counted line t (x ∷ s)))) ends.0
+        ∙ (ap (λ (q : ℕ). Some (kept_train len t f (step ∷ []) long q (longest_end line t (x ∷ s)) n (report_time line (zone_id line) t (x ∷ s)) (last_issued t (x ∷ s)) (counted line t (x ∷ s)))) ends.1
+        ∙ (ap (λ (q : ℕ). Some (kept_train len t f (step ∷ []) long long q n (report_time line (zone_id line) t (x ∷ s)) (last_issued t (x ∷ s)) (counted line t (x ∷ s)))) entered_at
+        ∙ (ap (λ (q : ℕ). Some (kept_train len t f (step ∷ []) long long (len step.seg.0) n q (last_issued t (x ∷ s)) (counted line t (x ∷ s)))) (report_entered line (zone_id line) t x s grants)
+        ∙ (ap (λ (q : ℕ). Some (kept_train len t f (step ∷ []) long long (len step.seg.0) q q (last_issued t (x ∷ s)) (counted line t (x ∷ s)))) now_
+        ∙ (ap (λ (q : ℕ). Some (kept_train len t f (step ∷ []) long long (len step.seg.0) (now_with (zone_id line) s m) (now_with (zone_id line) s m) q (counted line t (x ∷ s)))) entered_last
         ∙ (ap (λ (q : ℕ). Some (kept_train len t f (step ∷ []) long long (len step.seg.0) (now_with (zone_id line) s m) (now_with (zone_id line) s m) 1 q)) entered_counted
         ∙ ap (λ (q : ZoneTrain). Some q) (kept_entered len u long error speed (now_with (zone_id line) s m) step (omega (arith, some, same)) (grind (arith, nat_tests))))))))))))
 

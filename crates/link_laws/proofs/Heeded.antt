@@ -1,4 +1,7 @@
 -- Every message of a link is heeded: what is sent fits, and no number or mark is near the end of its type.
+use Rattle.sound_laws.proofs.One_route.{end_is}
+use Rattle.front_laws.proofs.Heads.{on_controls}
+use Rattle.authority_laws.proofs.Most_of.{most_more}
 use Rattle.std.proofs.Common.{◌≡◌, ℕ, ◌+◌, ◌-◌, ◌*◌, ◌<◌, ◌≤◌, List, length, take, Option, Some, None, Bool, true, false, ◌&&◌, ◌||◌, refl, sym, ◌∙◌, ap, arith, not, if◌then◌else◌}
 use Rattle.std.proofs.lemmas.Bool.Decides.{nat_tests}
 use Rattle.std.proofs.lemmas.Bool.{eqb-true}
@@ -17,9 +20,9 @@ use Rattle.definitions.specs.Track.{Line, seg_len, last_step, zone_of}
 use Rattle.definitions.specs.Ways.{PlainWay, chained, path_in_range, way_between}
 use Rattle.definitions.specs.Premises.{head_offset}
 use Rattle.definitions.specs.Story.{Story, sent}
-use Rattle.definitions.specs.World.{Facts, facts_or, facts_of, long_of, first_entry, entered, head, journey, limit_place, last_number, entry_authority, auth_number, Authority}
-use Rattle.definitions.specs.Control.{controls, known_facts, counted, last_issued}
-use Rattle.definitions.specs.Longest.{longest_end, longest_route}
+use Rattle.definitions.specs.World.{Facts, facts_or, facts_of, long_of, first_entry, entered, head, journey, limit_place, last_number, entry_authority, auth_number, Authority, authority_end}
+use Rattle.definitions.specs.Control.{controls, known_facts, last_issued}
+use Rattle.definitions.specs.Longest.{counted, longest_end, longest_route}
 use Rattle.definitions.specs.Authority.{way}
 use Rattle.definitions.specs.Steps.{entry_path}
 use Rattle.definitions.specs.Safe.{IsLineOfOneZone}
@@ -33,11 +36,11 @@ use Rattle.motion_laws.proofs.Notions.{both, number_most}
 use Rattle.motion_laws.proofs.Issued.{issued_all}
 use Rattle.way_laws.proofs.Lines.{portal_on_line}
 use Rattle.way_laws.proofs.Between_places.{between_mark, between_steps}
-use Rattle.sound_laws.proofs.Sound.{track_end, path_fits, AuthorityIs, FirstIs, AuthIs, AuthTrue, RequestTrue, Sound}
+use Rattle.sound_laws.proofs.Sound.{path_fits, AuthorityIs, FirstIs, AuthIs, AuthTrue, RequestTrue, Sound}
 use Rattle.link_laws.proofs.Zone_trains.{all_found}
 use Rattle.link_laws.proofs.One_zone.{zone_is}
 use Rattle.link_laws.proofs.Way_of.{way_of}
-use Rattle.link_laws.proofs.Head_on.{HeadOn, head_on, steps_few, most_more}
+use Rattle.link_laws.proofs.Head_on.{HeadOn, head_on, steps_few}
 
 itself : (t : ℕ) → nat_eq t t ≡ true
 itself t = grind (arith, nat_tests)
@@ -85,12 +88,7 @@ module _ (line : Line) (s : Story) (p : Plain) (one : IsLineOfOneZone line) (k :
   marks_few t a is c =
       let w = way_of line t s one.valid (sound t) c in
       let n = way_steps t c in
-      let order = w.order in
-      let ordered = w.ordered in
-      let within = w.within in
-      let rear = ((sound t).fronts c).lo - (known_facts (zone_id line) t s).long in
-      let b = between_mark len (longest_route line t s) rear (longest_end line t s) (omega (arith, order, ordered, within)) w.room in
-      let f = steps_few line t s one.valid (sound t) c a is (longest_route line t s) (longest_end line t s) w.front w.room is.ends (omega (arith, b)) in
+      let f = steps_few line t s one.valid (sound t) c a is in
       omega (arith, f, n)
 
   -- The world.
@@ -111,7 +109,7 @@ module _ (line : Line) (s : Story) (p : Plain) (one : IsLineOfOneZone line) (k :
       ap (λ (e : Option DirSeg). covers_portal len e (long_of t s) path) f.first ∙ ap (λ (x : Path). covers_portal len (Some f.step) (long_of t s) x) f.path in
       rw (m, q, step_self f.step, itself (len f.step.seg.0), r) refl
 
-  lies : (t : ℕ) (mark : ℕ) (path : Path) → HeadOn line t s (record { mark = mark; path = path }) → head t s ≤ track_end line t s (record { mark = mark; path = path })
+  lies : (t : ℕ) (mark : ℕ) (path : Path) → HeadOn line t s (record { mark = mark; path = path }) → head t s ≤ authority_end (seg_len line) (journey line t s) (record { mark = mark; path = path })
       → lies_on (seg_len line) mark path (record { step = last_step (journey line t s); mark = length (journey line t s) - 1; offset = head_offset line t s }) ≡ true
   lies t mark path h ahead =
       let m : nat_le mark (length (journey line t s) - 1) ≡ true = let z = h.mark in grind (arith, nat_tests) in
@@ -125,14 +123,16 @@ module _ (line : Line) (s : Story) (p : Plain) (one : IsLineOfOneZone line) (k :
       within begin x end at a b = grind (arith, nat_tests)
 
   -- an authority of a new number ends no nearer than the train is
-  pub new_ahead : (t number : ℕ) (a : Authority) → AuthIs line t s number a → entered t s ≡ true → last_number t s ≤ number → head t s ≤ track_end line t s a
+  pub new_ahead : (t number : ℕ) (a : Authority) → AuthIs line t s number a → entered t s ≡ true → last_number t s ≤ number → head t s ≤ authority_end (seg_len line) (journey line t s) a
   new_ahead t number a is on h =
       let l = (sound t).authorized.limit on in
       let e = is.exact in
       let n = l.number in
       let o = l.ahead in
       let m = most_more line (first_entry t s) t (last_number t s) number s h in
-      omega (arith, e, n, o, m)
+      let k = (sound t).authorized.controlled (on_controls line t s (sound t) on) in
+      let i = end_is line t s one.valid k.step k.first (portal_on_line line k.step one.valid k.portal) a is.authority in
+      omega (arith, e, n, o, m, i)
 
   heeds : (t number mark : ℕ) (path : Path) → AuthIs line t s number (record { mark = mark; path = path }) → controls (zone_id line) t s ≡ true
       → (f : Option Facts) → facts_of t s ≡ f
@@ -185,9 +185,9 @@ module _ (line : Line) (s : Story) (p : Plain) (one : IsLineOfOneZone line) (k :
         let a = (sound t).authorized.counted_most in
         let b = low t in
         let l : fresh_number (last_issued t s) ≡ true = grind (arith, nat_tests) in
-        let n : fresh_number (counted t s) ≡ true = grind (arith, nat_tests) in
+        let n : fresh_number (counted line t s) ≡ true = grind (arith, nat_tests) in
         let e1 : x.last ≡ last_issued t s = ap (λ (y : Option ZoneTrain). last_or y) (sym h) in
-        let e2 : x.answered ≡ counted t s = ap (λ (y : Option ZoneTrain). answered_or y) (sym h) in
+        let e2 : x.answered ≡ counted line t s = ap (λ (y : Option ZoneTrain). answered_or y) (sym h) in
         let q : fresh_mark x.way.mark ≡ true = grind (arith, nat_tests) in
         rw (e1, e2, l, n) q
       where

@@ -1,5 +1,7 @@
 -- A train that the zone keeps, by its ends on a front of its track.
-use Rattle.std.proofs.Common.{◌≡◌, ℕ, ◌+◌, ◌-◌, ◌<◌, ◌≤◌, min, List, Option, Some, true, sym, ◌∙◌, ap, subst, arith}
+use Rattle.std.proofs.Common.{◌≡◌, ℕ, ◌+◌, ◌-◌, ◌<◌, ◌≤◌, min, List, Option, Some, true, false, refl, sym, ◌∙◌, ap, subst, arith, None}
+use Rattle.std.proofs.lemmas.Bool.Decides.{nat_tests}
+use Rattle.std.specs.Prelude.{nat_lt}
 use Rattle.track_points.specs.declared.ids.DirSeg.{DirSeg}
 use Rattle.track_points.specs.Points.{Lengths, total}
 use Rattle.envelope.specs.Fronts.{farthest_move}
@@ -7,14 +9,16 @@ use Rattle.definitions.specs.Track.{Line, seg_len, track_from}
 use Rattle.definitions.specs.Rules.{is_line}
 use Rattle.definitions.specs.Ways.{PlainWay, way_between}
 use Rattle.definitions.specs.Story.{Story}
-use Rattle.definitions.specs.World.{Facts, first_entry}
-use Rattle.definitions.specs.Control.{controls, known_facts, now_of, counted, last_issued}
-use Rattle.definitions.specs.Longest.{longest_end, longest_route}
+use Rattle.definitions.specs.World.{Facts, first_entry, journey}
+use Rattle.definitions.specs.Account.{Account}
+use Rattle.definitions.specs.Fold.{account}
+use Rattle.definitions.specs.Control.{controls, known_facts, now_of, last_issued}
+use Rattle.definitions.specs.Longest.{counted, longest_end, longest_route}
 use Rattle.definitions.specs.Fronts.{greatest_front, report_time}
 use Rattle.plain_state.specs.ZoneTrain.{ZoneTrain}
 use Rattle.plain_state.specs.Zone.{grown_train}
 use Rattle.plain_state.specs.Plain.{zone_id}
-use Rattle.plain_state.specs.Relation.{zone_train_of, zone_train}
+use Rattle.plain_state.specs.Relation.{pending_of, zone_train_of, zone_train}
 use Rattle.way_laws.proofs.Track.{TrackFront}
 use Rattle.way_laws.proofs.Between_places.{begin_of, behind_from}
 use Rattle.way_laws.proofs.Between_moved.{between_same, between_before}
@@ -37,6 +41,7 @@ kept_train len t f steps lo hi end at report last answered = record {
   report = report;
   last = last;
   answered = answered;
+  pending = None;
 }
 
 -- another front of the track that reaches the end will do
@@ -61,24 +66,31 @@ kept_same line first len t f a b lo hi end at report last answered g h order u v
       report = report;
       last = last;
       answered = answered;
+      pending = None;
     }
+
+-- no shrink is unanswered
+none_pending : (len : Lengths) (steps : List DirSeg) (start : ℕ) (v : Account) → v.shrink ≡ 0 → pending_of len steps start v ≡ None
+none_pending len steps start v none = let no : nat_lt 0 v.shrink ≡ false = grind (arith, nat_tests) in rw no refl
 
 -- the train of the zone is kept so
 pub zone_kept : (line : Line) (t : ℕ) (s : Story) (valid : is_line line ≡ true) (sound : Sound line t s) (c : controls (zone_id line) t s ≡ true)
     → zone_train line t s ≡ Some (kept_train (seg_len line) t (known_facts (zone_id line) t s) (longest_route line t s) (sound.fronts c).lo (sound.fronts c).hi (longest_end line t s)
-    (now_of (zone_id line) s) (report_time line (zone_id line) t s) (last_issued t s) (counted t s))
+    (now_of (zone_id line) s) (report_time line (zone_id line) t s) (last_issued t s) (counted line t s))
 zone_kept line t s valid sound c =
     let z = zone_id line in
     let w = way_of line t s valid sound c in
     let f = known_facts z t s in
     let rear = (sound.fronts c).lo - f.long in
     let steps = longest_route line t s in
+    let pending = pending_of (seg_len line) (journey line t s) (begin_of (seg_len line) steps rear) (account line t s) in
     ap (λ (x : Option PlainWay). zone_train_of line z t s x) w.is
-    ∙ (ap (λ (n : ℕ). Some (with_ends n (greatest_front line z t s))) w.least
-    ∙ ap (λ (n : ℕ). Some (with_ends (sound.fronts c).lo n)) w.greatest)
+    ∙ (ap (λ (n : ℕ). Some (with_ends n (greatest_front line z t s) pending)) w.least
+    ∙ (ap (λ (n : ℕ). Some (with_ends (sound.fronts c).lo n pending)) w.greatest
+    ∙ ap (λ (p : Option (ℕ × ℕ)). Some (with_ends (sound.fronts c).lo (sound.fronts c).hi p)) (none_pending (seg_len line) (journey line t s) (begin_of (seg_len line) steps rear) (account line t s) sound.authorized.unshrunk)))
   where
-    with_ends : ℕ → ℕ → ZoneTrain
-    with_ends lo hi = record {
+    with_ends : ℕ → ℕ → Option (ℕ × ℕ) → ZoneTrain
+    with_ends lo hi pending = record {
       id = record { 0 = t };
       train_length = (known_facts (zone_id line) t s).long;
       error = (known_facts (zone_id line) t s).error;
@@ -91,7 +103,8 @@ zone_kept line t s valid sound c =
       };
       report = report_time line (zone_id line) t s;
       last = last_issued t s;
-      answered = counted t s;
+      answered = counted line t s;
+      pending = pending;
     }
 
 -- growth moves the greatest front
@@ -118,13 +131,14 @@ kept_grown clock len t f steps lo hi end at report last answered o w =
       report = report;
       last = last;
       answered = answered;
+      pending = None;
     }
 
 -- the same track to the same end behind an event: what is kept lies on the route of before
 pub zone_behind : (line : Line) (t : ℕ) (s s2 : Story) (valid : is_line line ≡ true) (sound : Sound line t s) (sound2 : Sound line t s2) (c : controls (zone_id line) t s ≡ true) (c2 : controls (zone_id line) t s2 ≡ true)
     → first_entry t s2 ≡ first_entry t s → known_facts (zone_id line) t s2 ≡ known_facts (zone_id line) t s → longest_end line t s2 ≡ longest_end line t s
     → zone_train line t s2 ≡ Some (kept_train (seg_len line) t (known_facts (zone_id line) t s) (longest_route line t s) (sound2.fronts c2).lo (sound2.fronts c2).hi (longest_end line t s)
-    (now_of (zone_id line) s2) (report_time line (zone_id line) t s2) (last_issued t s2) (counted t s2))
+    (now_of (zone_id line) s2) (report_time line (zone_id line) t s2) (last_issued t s2) (counted line t s2))
 zone_behind line t s s2 valid sound sound2 c c2 first facts end =
     let z = zone_id line in
     let len = seg_len line in
@@ -136,8 +150,8 @@ zone_behind line t s s2 valid sound sound2 c c2 first facts end =
     let ordered = b.ordered in
     let within = b.within in
     zone_kept line t s2 valid sound2 c2
-    ∙ (ap (λ (f : Facts). Some (kept_train len t f (longest_route line t s2) (sound2.fronts c2).lo (sound2.fronts c2).hi (longest_end line t s2) (now_of z s2) (report_time line z t s2) (last_issued t s2) (counted t s2))) facts
-    ∙ (ap (λ (n : ℕ). Some (kept_train len t (known_facts z t s) (longest_route line t s2) (sound2.fronts c2).lo (sound2.fronts c2).hi n (now_of z s2) (report_time line z t s2) (last_issued t s2) (counted t s2))) end
+    ∙ (ap (λ (f : Facts). Some (kept_train len t f (longest_route line t s2) (sound2.fronts c2).lo (sound2.fronts c2).hi (longest_end line t s2) (now_of z s2) (report_time line z t s2) (last_issued t s2) (counted line t s2))) facts
+    ∙ (ap (λ (n : ℕ). Some (kept_train len t (known_facts z t s) (longest_route line t s2) (sound2.fronts c2).lo (sound2.fronts c2).hi n (now_of z s2) (report_time line z t s2) (last_issued t s2) (counted line t s2))) end
     ∙ ap (λ (x : ZoneTrain). Some x) (kept_same line (first_entry t s) len t (known_facts z t s) (longest_route line t s2) (longest_route line t s) (sound2.fronts c2).lo (sound2.fronts c2).hi (longest_end line t s)
-    (now_of z s2) (report_time line z t s2) (last_issued t s2) (counted t s2) front a.front
+    (now_of z s2) (report_time line z t s2) (last_issued t s2) (counted line t s2) front a.front
     (let e = ap (λ (f : Facts). f.long) facts in omega (arith, e, order, ordered, within, end)) (omega (arith, room, end)) a.room)))

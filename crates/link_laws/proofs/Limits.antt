@@ -3,26 +3,27 @@ use Rattle.std.proofs.Common.{◌≡◌, ℕ, suc, ◌+◌, ◌-◌, ◌<◌, �
 use Rattle.std.proofs.lemmas.Bool.Decides.{nat_tests}
 use Rattle.std.specs.Prelude.{nat_le}
 use Rattle.track_points.specs.declared.ids.DirSeg.{DirSeg}
-use Rattle.track_points.specs.Points.{total, end_place, steps_to, offset_to}
+use Rattle.track_points.specs.Points.{total, steps_to, offset_to}
 use Rattle.track_points.proofs.Some.{by_test}
 use Rattle.definitions.specs.Track.{Line, seg_len, track_from, track_to, last_step}
 use Rattle.definitions.specs.Rules.{is_line}
 use Rattle.definitions.specs.Premises.{on_line}
 use Rattle.definitions.specs.Story.{Entry as Made, Story, ever}
-use Rattle.definitions.specs.World.{Authority, first_entry, enters, entered, head, journey, limit_held, limit_place, authority_end, last_number}
+use Rattle.definitions.specs.World.{first_entry, enters, entered, head, limit_held, limit_place, last_number}
 use Rattle.definitions.specs.Control.{controls, last_issued}
 use Rattle.plain_state.specs.declared.Head.{Head}
 use Rattle.plain_state.specs.World.{moved_on}
 use Rattle.plain_state.specs.Plain.{zone_id}
+use Rattle.plain_state.specs.Relation.{head_of}
 use Rattle.way_laws.proofs.Lines.{portal_on_line}
-use Rattle.way_laws.proofs.Route.{route_end}
-use Rattle.sound_laws.proofs.Sound.{track, mark_place, track_end, most_issued, most_to, AuthorityIs, Sound}
-use Rattle.front_laws.proofs.Heads.{control_of, longest_track}
+use Rattle.sound_laws.proofs.One_route.{journey_is, kept_is}
+use Rattle.sound_laws.proofs.Sound.{track, most_issued, most_to, Sound}
+use Rattle.front_laws.proofs.Heads.{on_controls, control_of}
+use Rattle.authority_laws.proofs.Most_of.{most_quiet, most_more}
 use Rattle.link_laws.proofs.Way_of.{way_of}
-use Rattle.link_laws.proofs.Head_on.{most_more}
 use Rattle.link_laws.proofs.World_moves.{head_at}
 use Rattle.link_laws.proofs.Journeys.{head_moved}
-use Rattle.link_laws.proofs.Unissued.{NoAuth, most_same}
+use Rattle.link_laws.proofs.Unissued.{NoAuth}
 
 module _ (line : Line) (t : ℕ) (s : Story) (valid : is_line line ≡ true) (sound : Sound line t s) (c : controls (zone_id line) t s ≡ true) where
   abbrev st : DirSeg
@@ -39,7 +40,7 @@ module _ (line : Line) (t : ℕ) (s : Story) (valid : is_line line ≡ true) (so
       let m = most_more line (first_entry t s) t (last_number t s) (last_issued t s) s sound.authorized.last_most in
       let e = (control_of line t s valid sound c).end in
       let r = (way_of line t s valid sound c).room in
-      let k = ap (total (seg_len line)) (longest_track line t s valid sound c) in
+      let k = ap (total (seg_len line)) (kept_is line t s valid sound.motion sound.authorized c) in
       omega (arith, l, m, e, r, k)
 
   pub head_moves : (mm : ℕ) → entered t s ≡ true → head t s + mm ≤ limit_place line t s
@@ -57,16 +58,12 @@ module _ (line : Line) (t : ℕ) (s : Story) (valid : is_line line ≡ true) (so
           subst (λ (x : Option DirSeg). head t s + mm ≤ total (seg_len line) (track_from line x n) → head_at line x true (head t s + mm) ≡ moved_on line mm (head_at line x true (head t s)))
           (sym is) (λ k. head_moved line valid st step_on (head t s) mm n some k) r
 
-  -- where an authority ends that begins behind the head
-  pub end_on_journey : (a : Authority) → AuthorityIs line t s a → mark_place line t s a.mark ≤ head t s → authority_end (seg_len line) (journey line t s) a ≡ track_end line t s a
-  end_on_journey a is h = ends (first_entry t s) (control_of line t s valid sound c).first is.reached h
-    where
-      ends : (f : Option DirSeg) → f ≡ Some st → length (track_from line f a.mark) ≡ a.mark → total (seg_len line) (track_from line f a.mark) ≤ head t s
-          → authority_end (seg_len line) (track_to line f (head t s)) a ≡ total (seg_len line) (track_from line f a.mark) + end_place (seg_len line) a.path
-      ends f e m r =
-          subst (λ (x : Option DirSeg). length (track_from line x a.mark) ≡ a.mark → total (seg_len line) (track_from line x a.mark) ≤ head t s
-          → authority_end (seg_len line) (track_to line x (head t s)) a ≡ total (seg_len line) (track_from line x a.mark) + end_place (seg_len line) a.path)
-          (sym e) (λ u v. route_end line st valid step_on a.mark (head t s) a.path u v) m r
+-- where the head of a train on the line is
+pub head_found : (line : Line) (t : ℕ) (s : Story) → is_line line ≡ true → Sound line t s → entered t s ≡ true → head_of line t s ≡ head_at line (first_entry t s) true (head t s)
+head_found line t s valid sound on =
+    let k = sound.authorized.controlled (on_controls line t s sound on) in
+    let j = journey_is line t s valid k.step k.first (portal_on_line line k.step valid k.portal) in
+    rw (on, j) refl
 
 -- the limit stays where it was
 pub limit_same : (line : Line) (t : ℕ) (x : Made) (s : Story) → NoAuth t x.issued → (sound : Sound line t s) → (after : Sound line t (x ∷ s)) → entered t s ≡ true → entered t (x ∷ s) ≡ true
@@ -74,7 +71,7 @@ pub limit_same : (line : Line) (t : ℕ) (x : Made) (s : Story) → NoAuth t x.i
 limit_same line t x s a sound after on on2 first last =
     (after.authorized.limit on2).number
     ∙ (ap (λ (n : ℕ). most_to line t (x ∷ s) n) last
-    ∙ (most_same line (first_entry t (x ∷ s)) t (last_number t s) x s a
+    ∙ (most_quiet line (first_entry t (x ∷ s)) t (last_number t s) x s a
     ∙ (ap (λ (f : Option DirSeg). most_issued line f t (last_number t s) s) first ∙ sym ((sound.authorized.limit on).number))))
 
 -- a train that has not come on holds no limit

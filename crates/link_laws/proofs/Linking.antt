@@ -14,8 +14,8 @@ use Rattle.definitions.specs.Premises.{ascending, known_train, off_by, head_offs
 use Rattle.definitions.specs.Story.{Entry as Made, Story, sent, ever, ever_issued, first_told, greatest_issued}
 use Rattle.definitions.specs.World.{Facts, facts_of, is_declared, error_of, entered, entry_authority, last_number, clock, journey, trains, head, limit_held}
 use Rattle.definitions.specs.Control.{grants_entry, controls, known_trains, now_of}
-use Rattle.definitions.specs.Longest.{longest_of}
-use Rattle.definitions.specs.Fronts.{possible_front}
+use Rattle.definitions.specs.Account.{farthest}
+use Rattle.definitions.specs.Fold.{account}
 use Rattle.definitions.specs.Steps.{Effect, nothing, entering, requesting, telling, sender_of, taking_auth, world_takes, zone_step, taking, message, effects}
 use Rattle.definitions.specs.Safe.{IsLineOfOneZone}
 use Rattle.track_points.specs.Points.{step_eq}
@@ -178,7 +178,7 @@ pub linked_step : (line : Line) (s : Story) (p : Plain) (e : Event) → IsLineOf
 linked_step line s p e one short a timed k sound after = linked_after line s p one short k sound e a after
 
 pub linked_start : (line : Line) → Linked line [] (plain_start (zone_id line))
-unfolding find_train find_way sent ever ever_issued first_told longest_of trains ids known_trains Distinct now_of greatest_issued possible_front clock limit_held head
+unfolding find_train find_way sent ever ever_issued first_told account farthest trains ids known_trains Distinct now_of greatest_issued clock limit_held head
 linked_start line = record {
   time = refl;
   trains = λ t. refl;

@@ -1,6 +1,8 @@
 -- A kept train whose way is lengthened, and one whose authority is issued anew.
-use Rattle.std.proofs.Common.{◌≡◌, ℕ, ◌+◌, ◌-◌, ◌<◌, ◌≤◌, List, length, drop, Option, Some, true, sym, ◌∙◌, ap, arith}
-use Rattle.std.proofs.lemmas.List.{length-append}
+use Rattle.way_laws.proofs.Lines.{portal_on_line}
+use Rattle.front_laws.proofs.Heads.{control_of}
+use Rattle.std.proofs.Common.{◌≡◌, ℕ, ◌+◌, ◌-◌, ◌<◌, ◌≤◌, List, length, drop, Option, Some, true, sym, ◌∙◌, ap, arith, None, take}
+use Rattle.std.proofs.lemmas.List.{length-append, length-take-le}
 use Rattle.track_points.specs.declared.ids.DirSeg.{DirSeg}
 use Rattle.track_points.specs.declared.path.Path.{Path}
 use Rattle.track_points.specs.Points.{Lengths, total, end_place, steps_to, offset_to}
@@ -8,9 +10,9 @@ use Rattle.definitions.specs.Track.{Line, seg_len, track_from}
 use Rattle.definitions.specs.Rules.{is_line}
 use Rattle.definitions.specs.Ways.{PlainWay, way_between}
 use Rattle.definitions.specs.Story.{Story}
-use Rattle.definitions.specs.World.{Authority, Facts, first_entry}
-use Rattle.definitions.specs.Control.{controls, known_facts, now_of, counted, last_issued}
-use Rattle.definitions.specs.Longest.{longest_end, longest_route}
+use Rattle.definitions.specs.World.{Authority, Facts, first_entry, authority_end, journey}
+use Rattle.definitions.specs.Control.{controls, known_facts, now_of, last_issued}
+use Rattle.definitions.specs.Longest.{counted, longest_end, longest_route}
 use Rattle.definitions.specs.Fronts.{report_time}
 use Rattle.definitions.specs.Limit.{asked_way}
 use Rattle.definitions.specs.Steps.{path_to}
@@ -21,13 +23,11 @@ use Rattle.plain_state.specs.Relation.{zone_train}
 use Rattle.way_laws.proofs.Cut.{cut_front, cut_some, cut_total}
 use Rattle.way_laws.proofs.Cuts.{cut_again, offset_more}
 use Rattle.way_laws.proofs.Track.{TrackFront, track_front}
-use Rattle.way_laws.proofs.Route.{fronts_cut}
-use Rattle.way_laws.proofs.Between_places.{begin_of, between_mark, between_ends}
+use Rattle.way_laws.proofs.Between_places.{begin_of, between_ends}
 use Rattle.way_laws.proofs.Between_moved.{between_before, between_same, between_longer}
 use Rattle.sound_laws.proofs.Sound.{track, track_end, AuthorityIs, Sound}
-use Rattle.front_laws.proofs.Heads.{end_on_track}
+use Rattle.sound_laws.proofs.One_route.{end_on_track, one_route, end_is}
 use Rattle.link_laws.proofs.Way_of.{way_of}
-use Rattle.link_laws.proofs.Head_on.{path_some, path_number}
 use Rattle.link_laws.proofs.Kept_train.{kept_train, kept_same, zone_kept}
 
 offset_again : (len : Lengths) (steps : List DirSeg) (p : ℕ) → 0 < length steps → p ≤ total len steps → offset_to len (steps_to len steps p) p ≡ offset_to len steps p
@@ -94,6 +94,7 @@ kept_longer len asked t f a b lo hi end d at report last answered begins way_is 
       report = report;
       last = last + 1;
       answered = answered;
+      pending = None;
     }
 
 -- lengthened onto another front of the track
@@ -122,7 +123,7 @@ module _ (line : Line) (t : ℕ) (s : Story) (valid : is_line line ≡ true) (so
 
   -- what is kept lies on its route
   pub route_kept : zone_train line t s ≡ Some (kept_train (seg_len line) t (known_facts (zone_id line) t s) (track line t s (a.mark + length a.path.steps.items)) (sound.fronts c).lo (sound.fronts c).hi (longest_end line t s)
-      (now_of (zone_id line) s) (report_time line (zone_id line) t s) (last_issued t s) (counted t s))
+      (now_of (zone_id line) s) (report_time line (zone_id line) t s) (last_issued t s) (counted line t s))
   route_kept =
       let w = way_of line t s valid sound c in
       let order = w.order in
@@ -130,21 +131,15 @@ module _ (line : Line) (t : ℕ) (s : Story) (valid : is_line line ≡ true) (so
       let within = w.within in
       zone_kept line t s valid sound c
       ∙ ap (λ (x : ZoneTrain). Some x) (kept_same line (first_entry t s) (seg_len line) t (known_facts (zone_id line) t s) (longest_route line t s) (track line t s n) (sound.fronts c).lo (sound.fronts c).hi (longest_end line t s)
-      (now_of (zone_id line) s) (report_time line (zone_id line) t s) (last_issued t s) (counted t s) w.front (track_front line (first_entry t s) n) (omega (arith, order, ordered, within)) w.room route_reaches)
+      (now_of (zone_id line) s) (report_time line (zone_id line) t s) (last_issued t s) (counted line t s) w.front (track_front line (first_entry t s) n) (omega (arith, order, ordered, within)) w.room route_reaches)
 
   -- it has all steps up to the end
   pub route_steps : length (steps_to (seg_len line) (longest_route line t s) (longest_end line t s)) ≤ a.mark + length a.path.steps.items
   route_steps =
-      let len = seg_len line in
-      let w = way_of line t s valid sound c in
-      let order = w.order in
-      let ordered = w.ordered in
-      let within = w.within in
-      let l = path_number line t s a is in
-      let q = path_some line t s a is in
-      let m = between_mark len (longest_route line t s) ((sound.fronts c).lo - (known_facts (zone_id line) t s).long) (longest_end line t s) (omega (arith, order, ordered, within)) w.room in
-      let e = ap (λ (xs : List DirSeg). length xs) (fronts_cut line (first_entry t s) len (longest_route line t s) (track line t s n) w.front (track_front line (first_entry t s) n) (longest_end line t s) (omega (arith, m)) (omega (arith, l, q)) w.room route_reaches) in
-      let f = cut_front len (track line t s n) (longest_end line t s) in
-      let g = ap (λ (xs : List DirSeg). length xs) f.1 in
-      let h = length-append (steps_to len (track line t s n) (longest_end line t s)) f.0 in
-      omega (arith, e, g, h, l)
+      let f = control_of line t s valid sound c in
+      let k = (one_route line t s valid sound.motion sound.authorized c).lies a is in
+      let e : authority_end (seg_len line) (journey line t s) a ≡ longest_end line t s = end_is line t s valid f.step f.first (portal_on_line line f.step valid f.portal) a is ∙ sym end in
+      let n = ap (λ (xs : List DirSeg). length xs) (k.on ∙ ap (steps_to (seg_len line) (longest_route line t s)) e) in
+      let l = length-append (take a.mark (journey line t s)) a.path.steps.items in
+      let m = length-take-le a.mark (journey line t s) k.mark in
+      omega (arith, n, l, m)

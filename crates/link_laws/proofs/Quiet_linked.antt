@@ -15,7 +15,7 @@ use Rattle.definitions.specs.Track.{Line, seg_len, track_from}
 use Rattle.definitions.specs.Ways.{PlainWay, way_between}
 use Rattle.definitions.specs.Story.{Entry as Made, Story, greatest_in, greatest_issued}
 use Rattle.definitions.specs.World.{first_entry, auth_number}
-use Rattle.definitions.specs.Control.{grants_entry, asker, controls, known_facts, known_trains, now_with, answer_number, last_issued}
+use Rattle.definitions.specs.Control.{grants_entry, asker, controls, known_facts, known_trains, now_with, last_issued}
 use Rattle.definitions.specs.Longest.{longest_end, longest_route}
 use Rattle.definitions.specs.Fronts.{possible_front, is_used}
 use Rattle.definitions.specs.Steps.{Effect, again}
@@ -28,11 +28,13 @@ use Rattle.motion_laws.proofs.Issued.{AllIn, AllIssued}
 use Rattle.way_laws.proofs.Between_places.{between_end}
 use Rattle.way_laws.proofs.Between_moved.{between_before}
 use Rattle.sound_laws.proofs.Sound.{mark_place, track_end, most_to, AuthIs, Sound}
+use Rattle.authority_laws.proofs.Unshrunk.{answers, counted_unanswered}
+use Rattle.authority_laws.proofs.Most_of.{greatest_none}
 use Rattle.link_laws.proofs.World_trains.{mapped}
 use Rattle.link_laws.proofs.Zone_values.{Grown}
 use Rattle.link_laws.proofs.Way_of.{way_of}
 use Rattle.link_laws.proofs.Heeded.{way_steps}
-use Rattle.link_laws.proofs.Unissued.{NoAuth, numbers_none, end_same, controls_same, counted_none}
+use Rattle.link_laws.proofs.Unissued.{NoAuth, end_same, controls_same}
 use Rattle.link_laws.proofs.Zone_idle.{first_same}
 use Rattle.link_laws.proofs.Zone_moves.{zone_made, ZoneMoves}
 use Rattle.link_laws.proofs.Zone_behind.{steps_same, controlled_still, zone_still, zone_silent}
@@ -65,7 +67,7 @@ stay_moves line x s p trains one k sound after h found known distinct = record {
 pub silent_stays : (line : Line) (x : Made) (s : Story) → ((t : ℕ) → Sound line t s) → ((t : ℕ) → Sound line t (x ∷ s)) → ((t : ℕ) → grants_entry (zone_id line) t x ≡ false) → ((t : ℕ) → NoAuth t x.issued) → Stays line s x
 silent_stays line x s sound after grants silent = record {
   grants = grants;
-  few = λ t. let n = numbers_none t x.issued (silent t) in omega (arith, n);
+  few = λ t. let n = greatest_none t x.issued (silent t) in omega (arith, n);
   ends = λ t c. end_same line t x s (silent t) (sound t) (after t) c (controls_same (zone_id line) t x s (grants t) ∙ c) (first_same line t x s (sound t) c);
 }
 
@@ -73,7 +75,7 @@ silent_stays line x s sound after grants silent = record {
 pub quiet_moves : (line : Line) (z number : ℕ) (m : Msg) (e : Effect) (s : Story) (p : Plain) (ways : List ZoneTrain) → IsLineOfOneZone line → suc z ≡ zone_id line → Linked line s p → ((t : ℕ) → Sound line t s)
     → ((t : ℕ) → Sound line t (zone_made z number m e ∷ s)) → Grown line s (now_with (zone_id line) s m) ways
     → ((t : ℕ) → grants_entry (zone_id line) t (zone_made z number m e) ≡ false) → ((t : ℕ) → NoAuth t e.issued)
-    → ((t : ℕ) → is_used line (zone_id line) t s (possible_front line (zone_id line) t s) m ≡ false) → ((t : ℕ) → answer_number t (Some (0, m)) ≡ 0) → ZoneMoves line s (zone_made z number m e) ways
+    → ((t : ℕ) → is_used line (zone_id line) t s (possible_front line (zone_id line) t s) m ≡ false) → ((t : ℕ) → answers t (Some (0, m)) ≡ false) → ZoneMoves line s (zone_made z number m e) ways
 quiet_moves line z number m e s p ways one zone k sound after g grants silent unused uncounted =
     stay_moves line (zone_made z number m e) s p ways one k sound after (silent_stays line (zone_made z number m e) s sound after grants silent)
     (λ t. g.found t ∙ sym (zone_silent line z number m e s one zone t (sound t) (after t) (silent t) (grants t) (unused t) (uncounted t))) g.known g.distinct
@@ -144,7 +146,7 @@ module _ (line : Line) (z number : ℕ) (time : ℕ) (u : TrainId) (s : Story) (
         stay_moves line x s p ways one k sound after (record { grants = again_none; few = again_few; ends = ends })
         (λ v. g.found v ∙ sym (by_test (nat_eq u.0 v)
         (λ its. subst (λ (i : ℕ). zone_train line i (x ∷ s) ≡ mapped (grown_train (now_with (zone_id line) s m)) (zone_train line i s)) (eqb-true u.0 v its)
-        (zone_still line z number m e s one zone u.0 (sound u.0) (after u.0) (λ d. again_end) again_last (again_none u.0) refl (counted_none u.0 x s refl)))
+        (zone_still line z number m e s one zone u.0 (sound u.0) (after u.0) (λ d. again_end) again_last (again_none u.0) refl (counted_unanswered line u.0 x s (sound u.0).authorized.unshrunk refl)))
         (λ o. zone_silent line z number m e s one zone v (sound v) (after v) (again_silent v o) (again_none v) refl refl))) g.known g.distinct
       where
         ends : (v : ℕ) → controls (zone_id line) v s ≡ true → longest_end line v (zone_made z number m e ∷ s) ≡ longest_end line v s

@@ -13,13 +13,14 @@ use Rattle.definitions.specs.declared.outcome.Outcome.{Outcome}
 use Rattle.definitions.specs.Track.{Line, seg_len}
 use Rattle.definitions.specs.Numbers.{last}
 use Rattle.definitions.specs.Story.{Entry as Made, Story}
-use Rattle.definitions.specs.Control.{controls, known_facts, now_with, counted, last_issued}
-use Rattle.definitions.specs.Longest.{longest_end, longest_route}
-use Rattle.definitions.specs.Fronts.{possible_front, fronts_behind, on_way, is_used, rear_of, report_time}
+use Rattle.definitions.specs.Farther.{on_way}
+use Rattle.definitions.specs.Control.{controls, known_facts, now_with, last_issued}
+use Rattle.definitions.specs.Longest.{counted, longest_end, longest_route}
+use Rattle.definitions.specs.Fronts.{possible_front, fronts_behind, is_used, rear_of, report_time}
 use Rattle.definitions.specs.Steps.{Effect, nothing, place_line, zone_report}
 use Rattle.definitions.specs.Safe.{IsLineOfOneZone}
 use Rattle.plain_state.specs.ZoneTrain.{ZoneTrain}
-use Rattle.plain_state.specs.Zone.{find_way, change_way, has_mark, uses_mark, narrowed_by, cut_behind, reported_by, place_of_train, place_found, grown_train}
+use Rattle.plain_state.specs.Zone.{find_way, change_way, has_mark, uses_mark, narrowed_by, cut_at_rear, check, reported_by, place_of_train, place_found, grown_train}
 use Rattle.plain_state.specs.Plain.{zone_id}
 use Rattle.plain_state.specs.Relation.{zone_train}
 use Rattle.motion_laws.proofs.Notions.{both}
@@ -68,7 +69,7 @@ module _ (line : Line) (z number : ℕ) (u : TrainId) (time mark : ℕ) (offset 
     k = (known_facts (zone_id line) t s).long
 
     abbrev grown : ZoneTrain
-    grown = kept_train (seg_len line) t (known_facts (zone_id line) t s) (longest_route line t s) lo hi (longest_end line t s) (now_with (zone_id line) s r) (report_time line (zone_id line) t s) (last_issued t s) (counted t s)
+    grown = kept_train (seg_len line) t (known_facts (zone_id line) t s) (longest_route line t s) lo hi (longest_end line t s) (now_with (zone_id line) s r) (report_time line (zone_id line) t s) (last_issued t s) (counted line t s)
 
     found_grown : find_way u.0 ways ≡ Some grown
     found_grown = g.found t ∙ grown_is line r s t one (sound t) c
@@ -108,22 +109,22 @@ module _ (line : Line) (z number : ℕ) (u : TrainId) (time mark : ℕ) (offset 
 
     module _ (uses : is_used line (zone_id line) u.0 s (possible_front line (zone_id line) u.0 s) (msg.Report u time mark offset integrity) ≡ true) where
       abbrev shown : ZoneTrain
-      shown = shown_train (seg_len line) t (known_facts (zone_id line) t s) (longest_route line t s) lo hi (longest_end line t s) (now_with (zone_id line) s r) (report_time line (zone_id line) t s) (last_issued t s) (counted t s)
+      shown = shown_train (seg_len line) t (known_facts (zone_id line) t s) (longest_route line t s) lo hi (longest_end line t s) (now_with (zone_id line) s r) (report_time line (zone_id line) t s) (last_issued t s) (counted line t s)
           long_is.0 long_is.1 ordered within (way_of line t s one.valid (sound t) c).room left.lo left.hi told
 
       narrowed_now : narrowed_by (seg_len line) time mark offset integrity grown ≡ shown
       narrowed_now =
-          narrowed_is (seg_len line) t (known_facts (zone_id line) t s) (longest_route line t s) lo hi (longest_end line t s) (now_with (zone_id line) s r) (report_time line (zone_id line) t s) (last_issued t s) (counted t s)
+          narrowed_is (seg_len line) t (known_facts (zone_id line) t s) (longest_route line t s) lo hi (longest_end line t s) (now_with (zone_id line) s r) (report_time line (zone_id line) t s) (last_issued t s) (counted line t s)
           long_is.0 long_is.1 ordered within (way_of line t s one.valid (sound t) c).room time mark offset integrity (mark_used ∙ uses)
 
       narrower : (lo ≤ left.lo) × ((left.lo ≤ left.hi) × (left.hi ≤ hi))
       narrower = let n = fronts_kept line t s u time mark offset integrity ((sound t).fronts c) uses in (n.least, (n.numbers.ordered, n.most))
 
       cut_now : reported_by (seg_len line) time mark offset integrity grown
-          ≡ kept_train (seg_len line) t (known_facts (zone_id line) t s) (longest_route line t s) left.lo left.hi (longest_end line t s) (now_with (zone_id line) s r) told (last_issued t s) (counted t s)
+          ≡ kept_train (seg_len line) t (known_facts (zone_id line) t s) (longest_route line t s) left.lo left.hi (longest_end line t s) (now_with (zone_id line) s r) told (last_issued t s) (counted line t s)
       cut_now =
-          ap (λ (y : ZoneTrain). cut_behind (seg_len line) (y.fronts.lo - y.train_length) y) narrowed_now
-          ∙ cut_is (seg_len line) t (known_facts (zone_id line) t s) (longest_route line t s) lo hi (longest_end line t s) (now_with (zone_id line) s r) (report_time line (zone_id line) t s) (last_issued t s) (counted t s)
+          ap (λ (y : ZoneTrain). cut_at_rear (seg_len line) (check y)) narrowed_now
+          ∙ cut_is (seg_len line) t (known_facts (zone_id line) t s) (longest_route line t s) lo hi (longest_end line t s) (now_with (zone_id line) s r) (report_time line (zone_id line) t s) (last_issued t s) (counted line t s)
           long_is.0 long_is.1 ordered within (way_of line t s one.valid (sound t) c).room left.lo left.hi told narrower.0 narrower.1.0 narrower.1.1
 
       place_now : place_of_train (seg_len line) (zone_id line) (narrowed_by (seg_len line) time mark offset integrity grown)
@@ -133,7 +134,7 @@ module _ (line : Line) (z number : ℕ) (u : TrainId) (time mark : ℕ) (offset 
       place_now =
           let n = (fronts_kept line t s u time mark offset integrity ((sound t).fronts c) uses).numbers in
           ap (λ (y : ZoneTrain). place_of_train (seg_len line) (zone_id line) y) narrowed_now
-          ∙ (place_is (seg_len line) t (known_facts (zone_id line) t s) (longest_route line t s) lo hi (longest_end line t s) (now_with (zone_id line) s r) (report_time line (zone_id line) t s) (last_issued t s) (counted t s)
+          ∙ (place_is (seg_len line) t (known_facts (zone_id line) t s) (longest_route line t s) lo hi (longest_end line t s) (now_with (zone_id line) s r) (report_time line (zone_id line) t s) (last_issued t s) (counted line t s)
           long_is.0 long_is.1 ordered within (way_of line t s one.valid (sound t) c).room left.lo left.hi told narrower.0 narrower.1.0 narrower.1.1 (zone_id line)
           ∙ (ap (λ (n : ℕ). place_line (seg_len line) (zone_id line) u (longest_route line t s) n left.hi) (sym n.rear)
           ∙ ap (λ (n : ℕ). place_line (seg_len line) (zone_id line) u (longest_route line t s) (rear_of line (zone_id line) t s (fronts_behind line (zone_id line) t s (possible_front line (zone_id line) t s) r)) n) (sym n.greatest)))

@@ -1,5 +1,5 @@
 -- A kept train behind a used report: where it is, and its way cut behind its rear.
-use Rattle.std.proofs.Common.{◌≡◌, ℕ, ◌+◌, ◌-◌, ◌<◌, ◌≤◌, max, List, take, drop, Bool, true, ◌∙◌, ap, arith}
+use Rattle.std.proofs.Common.{◌≡◌, ℕ, ◌+◌, ◌-◌, ◌<◌, ◌≤◌, max, List, take, drop, Bool, true, ◌∙◌, ap, arith, None}
 use Rattle.std.proofs.lemmas.List.{drop-drop}
 use Rattle.std.proofs.Math.Seq.{take-add}
 use Rattle.std.specs.Prelude.{ℤ, pos, ◌+ℤ◌}
@@ -16,7 +16,7 @@ use Rattle.plain_state.specs.ZoneTrain.{ZoneTrain}
 use Rattle.plain_state.specs.Zone.{has_mark, narrowed_by, cut_behind, place_of_train}
 use Rattle.way_laws.proofs.Cut.{total_append}
 use Rattle.way_laws.proofs.Between_places.{begin_of, behind_from, behind_take, between_rear_at, between_front_at}
-use Rattle.front_laws.proofs.Front_ranges.{narrowed_to, narrowed_shifted}
+use Rattle.front_laws.proofs.Shifted.{narrowed_to, narrowed_shifted}
 use Rattle.link_laws.proofs.Kept_train.{kept_train}
 use Rattle.link_laws.proofs.Way_marks.{named_is, behind_way}
 
@@ -45,6 +45,7 @@ module _ (len : Lengths) (t : ℕ) (f : Facts) (steps : List DirSeg) (lo hi end 
     report = told;
     last = last;
     answered = answered;
+    pending = None;
   }
 
   module _ (time mark : ℕ) (offset : ℤ) (integrity : Bool) (marked : has_mark (way_between len steps (lo - f.long) end) mark ≡ true) where
@@ -74,6 +75,7 @@ module _ (len : Lengths) (t : ℕ) (f : Facts) (steps : List DirSeg) (lo hi end 
           report = max report time;
           last = last;
           answered = answered;
+          pending = None;
         }
 
   -- Fronts that are narrower.
@@ -145,4 +147,5 @@ module _ (len : Lengths) (t : ℕ) (f : Facts) (steps : List DirSeg) (lo hi end 
           report = told;
           last = last;
           answered = answered;
+          pending = None;
         }

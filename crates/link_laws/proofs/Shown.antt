@@ -9,8 +9,8 @@ use Rattle.definitions.specs.Track.{Line, seg_len, owner}
 use Rattle.definitions.specs.Rules.{is_line}
 use Rattle.definitions.specs.Ways.{PlainWay}
 use Rattle.definitions.specs.Story.{Story}
-use Rattle.definitions.specs.Control.{controls, known_facts, now_of, counted, last_issued}
-use Rattle.definitions.specs.Longest.{longest_end, longest_route}
+use Rattle.definitions.specs.Control.{controls, known_facts, now_of, last_issued}
+use Rattle.definitions.specs.Longest.{counted, longest_end, longest_route}
 use Rattle.definitions.specs.Fronts.{possible_front, report_time}
 use Rattle.definitions.specs.Authority.{way, way_has, held}
 use Rattle.plain_state.specs.ZoneTrain.{ZoneTrain}
@@ -36,7 +36,7 @@ module _ (line : Line) (s : Story) (valid : is_line line ≡ true) (trains : Lis
 
   pub found_kept : (t : ℕ) (x : ZoneTrain) (c : controls (zone_id line) t s ≡ true) → find_way t trains ≡ Some x
       → kept_train (seg_len line) t (known_facts (zone_id line) t s) (longest_route line t s) ((sound t).fronts c).lo ((sound t).fronts c).hi (longest_end line t s)
-      (now_of (zone_id line) s) (report_time line (zone_id line) t s) (last_issued t s) (counted t s) ≡ x
+      (now_of (zone_id line) s) (report_time line (zone_id line) t s) (last_issued t s) (counted line t s) ≡ x
   found_kept t x c found = same _ x (sym (zone_kept line t s valid (sound t) c) ∙ (sym (ways t) ∙ found))
     where
       same : (a b : ZoneTrain) → Some a ≡ Some b → a ≡ b

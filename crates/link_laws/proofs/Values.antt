@@ -1,18 +1,17 @@
 -- What the plain state tells of a train is what the story tells.
-use Rattle.std.proofs.Common.{◌≡◌, ℕ, ◌-◌, List, [], ◌∷◌, Option, Some, None, true, false, refl, sym, ◌∙◌, ap, arith}
-use Rattle.std.specs.Prelude.{nat_eq, is_some}
+use Rattle.std.proofs.Common.{◌≡◌, ℕ, ◌+◌, ◌-◌, Option, Some, None, true, false, refl, sym, ◌∙◌, ap, arith}
+use Rattle.std.specs.Prelude.{is_some}
 use Rattle.track_points.specs.declared.ids.DirSeg.{DirSeg}
 use Rattle.track_points.specs.Points.{Lengths}
 use Rattle.track_points.proofs.Some.{by_test}
-use Rattle.definitions.specs.declared.message.Msg.{Msg}
-use Rattle.definitions.specs.declared.message.Msg.TheVariants as msg
 use Rattle.definitions.specs.Track.{Line, seg_len}
 use Rattle.definitions.specs.Rules.{is_line}
-use Rattle.definitions.specs.Story.{Story, greatest_in, greatest_issued}
+use Rattle.definitions.specs.Story.{Story}
 use Rattle.definitions.specs.Ways.{PlainWay}
-use Rattle.definitions.specs.World.{Facts, facts_or, facts_of, is_declared, error_of, speed_of, first_entry, entered, head, HeldPath, Authority, entry_authority, last_number, auth_number, limit_place, journey}
-use Rattle.definitions.specs.Control.{controls, counted}
-use Rattle.definitions.specs.Longest.{auth_above, longest_in, longest_of, longest_end, longest_route}
+use Rattle.definitions.specs.World.{Facts, facts_or, facts_of, is_declared, error_of, speed_of, first_entry, entered, head, HeldPath, Authority, entry_authority, last_number, limit_place, journey}
+use Rattle.definitions.specs.Control.{controls}
+use Rattle.definitions.specs.Fold.{account}
+use Rattle.definitions.specs.Longest.{longest_end, longest_route}
 use Rattle.definitions.specs.Fronts.{least_rear}
 use Rattle.definitions.specs.Authority.{way, way_or_none}
 use Rattle.definitions.specs.Steps.{sender_of}
@@ -22,36 +21,16 @@ use Rattle.plain_state.specs.declared.EntryAuthority.{EntryAuthority}
 use Rattle.plain_state.specs.World.{find_train, facts_found, entry_found, kept_sender, authority_found, head_found, on_found, number_found, room_found, error_found, speed_found}
 use Rattle.plain_state.specs.Plain.{Plain, zone_id}
 use Rattle.plain_state.specs.Relation.{kept_authority, head_of, world_of, Linked}
-use Rattle.motion_laws.proofs.Issued.{AllIn, AllIssued}
-use Rattle.sound_laws.proofs.Sound.{AuthTrue, Sound}
+use Rattle.sound_laws.proofs.Sound.{Sound}
+use Rattle.authority_laws.proofs.Farthest.{farthest_none}
 use Rattle.link_laws.proofs.Way_of.{way_of}
 
 -- A train that the zone does not control has no way, and one that it controls has.
 
-module _ (line : Line) (t : ℕ) (at : Story) (len : Lengths) (steps : List DirSeg) (n : ℕ) where
-  above_none : (m : Msg) → AuthTrue line t at m → auth_number t m ≡ 0 → auth_above n t m ≡ None
-  above_none (msg.Auth u number mark path) h e = by_test (nat_eq u.0 t)
-      (λ y. let p = (h y).positive in let z : number ≡ 0 = rw y at e in absurd (omega (arith, p, z)))
-      (λ x. rw x refl)
-  above_none (msg.Report u time mark offset integrity) h e = refl
-  above_none (msg.Time time u) h e = refl
-  above_none (msg.EntryAsk u time long error speed equipped step) h e = refl
-  above_none (msg.Ask u time asked to) h e = refl
-  above_none (msg.Answer u time number taken) h e = refl
-
-  in_none : (issued : List (ℕ × Msg)) → AllIn (AuthTrue line t at) issued → greatest_in (auth_number t) issued ≡ 0 → longest_in len steps n t issued ≡ None
-  unfolding AllIn greatest_in longest_in
-  in_none [] a e = refl
-  in_none (x ∷ issued) a e = rw (above_none x.1 a.0 (omega (arith, e)), in_none issued a.1 (omega (arith, e))) refl
-
-  longest_none : (s : Story) → AllIssued (AuthTrue line t at) s → greatest_issued (auth_number t) s ≡ 0 → longest_of len steps n t s ≡ None
-  unfolding AllIssued greatest_issued longest_of
-  longest_none [] a e = refl
-  longest_none (x ∷ s) a e = rw (in_none x.issued a.0 (omega (arith, e)), longest_none s a.1 (omega (arith, e))) refl
-
 pub no_way : (line : Line) (t : ℕ) (s : Story) → Sound line t s → controls (zone_id line) t s ≡ false → way line (zone_id line) t s ≡ None
 no_way line t s sound n =
-    let e = longest_none line t s (seg_len line) (journey line t s) (counted t s) s sound.authorized.auths (sound.authorized.unknown n) in
+    let v = account line t s in
+    let e = farthest_none (seg_len line) (journey line t s) v.reads v.counted (v.issued + 1 - v.counted) (sound.authorized.unread n) in
     ap (λ (a : Option Authority). way_or_none (seg_len line) a (longest_route line t s) (least_rear line (zone_id line) t s) (longest_end line t s)) e
 
 pub way_is_known : (line : Line) (t : ℕ) (s : Story) → is_line line ≡ true → Sound line t s → is_some (way line (zone_id line) t s) ≡ controls (zone_id line) t s

@@ -9,8 +9,8 @@ use Rattle.std.specs.Prelude.{ℤ, pos, ◌+ℤ◌, ◌-ℤ◌, nat_lt, nat_le}
 use Rattle.track_points.specs.declared.ids.DirSeg.{DirSeg}
 use Rattle.track_points.specs.Points.{Lengths, total, steps_to}
 use Rattle.track_points.proofs.Some.{by_test}
+use Rattle.definitions.specs.Farther.{on_way}
 use Rattle.definitions.specs.Ways.{PlainWay, steps_behind, way_between}
-use Rattle.definitions.specs.Fronts.{on_way}
 use Rattle.plain_state.specs.Zone.{has_mark, reported_place}
 use Rattle.way_laws.proofs.Cut.{cut_front, cut_total, total_append}
 use Rattle.way_laws.proofs.Cuts.{cut_is_take}

@@ -21,12 +21,16 @@ use Rattle.plain_state.specs.Plain.{Plain, by_world as world_next}
 use Rattle.plain_state.specs.Relation.{kept_authority, head_of, world_of, world_train, Linked}
 use Rattle.motion_laws.proofs.Notions.{told_now, entered_same}
 use Rattle.motion_laws.proofs.Issued.{AllIn}
+use Rattle.definitions.specs.Rules.{is_line}
+use Rattle.way_laws.proofs.Lines.{portal_on_line}
+use Rattle.motion_laws.proofs.Stays.{first_stays}
+use Rattle.journey_laws.proofs.Journey.{journey_track}
 use Rattle.sound_laws.proofs.Sound.{Sound}
 use Rattle.front_laws.proofs.Heads.{on_controls}
 use Rattle.link_laws.proofs.World_trains.{mapped, find_change, find_other, find_append, length_change, length_append}
 use Rattle.link_laws.proofs.Values.{no_entry_authority, no_number}
 use Rattle.link_laws.proofs.Unissued.{NoAuth}
-use Rattle.link_laws.proofs.World_moves.{head_at, train_by, head_still, last_still, limit_still, authority_still, facts_still, entry_still, world_same, undeclared_before, unasked_same, off_same, authorized_same, as_many, world_linked}
+use Rattle.link_laws.proofs.World_moves.{head_still, last_still, limit_still, authority_still, facts_still, entry_still, world_same, undeclared_before, unasked_same, off_same, authorized_same, as_many, world_linked}
 use Rattle.link_laws.proofs.Limits.{off_limit}
 
 -- A train is declared.
@@ -52,7 +56,7 @@ train_found line t u long error speed kind s p first k sound =
     let undeclared : is_declared t s ≡ false = subst (λ (i : ℕ). is_declared i s ≡ false) same first in
     let none : facts_of t s ≡ None = no_facts (facts_of t s) undeclared in
     let stays = k.stays_off t undeclared in
-    let before : find_train t p.world.trains ≡ None = k.trains t ∙ ap (λ (f : Option Facts). train_by line t f (first_entry t s) (entry_authority t s) (entered t s) (head t s) (limit_place line t s) (last_number t s)) none in
+    let before : find_train t p.world.trains ≡ None = k.trains t ∙ ap (λ (f : Option Facts). world_of t f (first_entry t s) (kept_authority (seg_len line) (entry_authority t s)) (head_of line t s) (limit_place line t s - head t s) (last_number t s)) none in
     let left : find_train t (p.world.trains ++ new_train u long error speed ∷ []) ≡ Some (new_train u long error speed) =
     find_append t p.world.trains (new_train u long error speed) ∙ rw (before, its) refl in
     let facts : facts_of t (x ∷ s) ≡ Some (record { long = long; error = error; speed = speed }) = told_now (λ (y : Made). facts_in t y.event) x s none ∙ rw its refl in
@@ -115,33 +119,43 @@ unfolding first_told
 first_next t ms u step zone f s its = rw its refl
 
 -- the head and the room of a train on the line do not change with a further request
-same_head : (line : Line) (t : ℕ) (s : Story) (step : DirSeg) (l : Option HeldPath) → Sound line t s → limit_held t s ≡ l
-    → (head_at line (or_else (first_entry t s) (Some step)) (entered t s) (head t s) ≡ head_at line (first_entry t s) (entered t s) (head t s))
-    × (held_end (seg_len line) (track_to line (or_else (first_entry t s) (Some step)) (head t s)) l ≡ held_end (seg_len line) (track_to line (first_entry t s) (head t s)) l)
-same_head line t s step l sound e = by_test (entered t s)
-    (λ on.
+same_journey : (line : Line) (t : ℕ) (x : Made) (s : Story) → is_line line ≡ true → Sound line t s → entered t s ≡ true → head t (x ∷ s) ≡ head t s → journey line t (x ∷ s) ≡ journey line t s
+same_journey line t x s valid sound on same =
     let k = sound.authorized.controlled (on_controls line t s sound on) in
-    let same : or_else (first_entry t s) (Some step) ≡ first_entry t s = ap (λ (f : Option DirSeg). or_else f (Some step)) k.first ∙ sym k.first in
-    rw same (refl, refl))
-    (λ off.
-    let none : l ≡ None = sym e ∙ off_limit t s off in
-    rw (off, none) (refl, refl))
+    let here = portal_on_line line k.step valid k.portal in
+    journey_track line t k.step valid here (x ∷ s) (first_stays t x s k.step k.first)
+    ∙ ap (λ (p : ℕ). track_to line (Some k.step) p) same
+    ∙ sym (journey_track line t k.step valid here s k.first)
 
-entry_found_now : (line : Line) (t ms : ℕ) (u : TrainId) (step : DirSeg) (zone : ℕ) (f : Option Facts) (s : Story) (p : Plain) → Linked line s p → Sound line t s
+same_head : (line : Line) (t : ℕ) (x : Made) (s : Story) → is_line line ≡ true → Sound line t s → enters t x.event ≡ false → head t (x ∷ s) ≡ head t s → limit_held t (x ∷ s) ≡ limit_held t s
+    → (head_of line t (x ∷ s) ≡ head_of line t s) × (limit_place line t (x ∷ s) ≡ limit_place line t s)
+same_head line t x s valid sound off same limit = by_test (entered t s)
+    (λ on.
+    let j = same_journey line t x s valid sound on same in
+    (rw (entered_same t x s off, j, same) refl, rw (j, limit) refl))
+    (λ n.
+    let none = off_limit t s n in
+    (rw (entered_same t x s off, n) refl, rw (limit, none) refl))
+
+entry_found_now : (line : Line) (t ms : ℕ) (u : TrainId) (step : DirSeg) (zone : ℕ) (f : Option Facts) (s : Story) (p : Plain) → is_line line ≡ true → Linked line s p → Sound line t s
     → find_train t (change_train u.0 (asked_at_portal step) p.world.trains) ≡ world_train line t (entry_entry ms u step zone f ∷ s)
-entry_found_now line t ms u step zone f s p k sound =
+entry_found_now line t ms u step zone f s p valid k sound =
     let x = entry_entry ms u step zone f in
     by_test (nat_eq u.0 t)
     (λ its.
     let same : u.0 ≡ t = eqb-true u.0 t its in
-    let parts = same_head line t s step (limit_held t s) sound refl in
+    let parts = same_head line t x s valid sound refl (head_still t x s refl refl) (limit_still t x s refl refl) in
     ap (λ (n : ℕ). find_train t (change_train n (asked_at_portal step) p.world.trains)) same
     ∙ (find_change t (asked_at_portal step) p.world.trains (λ y. refl)
     ∙ (ap (λ (y : Option WorldTrain). mapped (asked_at_portal step) y) (k.trains t)
     ∙ (mapped_entry t step (facts_of t s) (first_entry t s) (kept_authority (seg_len line) (entry_authority t s)) (head_of line t s) (limit_place line t s - head t s) (last_number t s)
     ∙ (ap (λ (h : Option Head). world_of t (facts_of t s) (or_else (first_entry t s) (Some step)) (kept_authority (seg_len line) (entry_authority t s)) h (limit_place line t s - head t s) (last_number t s)) (sym parts.0)
-    ∙ (ap (λ (n : ℕ). world_of t (facts_of t s) (or_else (first_entry t s) (Some step)) (kept_authority (seg_len line) (entry_authority t s)) (head_at line (or_else (first_entry t s) (Some step)) (entered t s) (head t s)) (n - head t s) (last_number t s)) (sym parts.1)
-    ∙ rw (facts_still t x s refl, first_next t ms u step zone f s its, authority_still t x s refl, entered_same t x s refl, head_still t x s refl refl, limit_still t x s refl refl, last_still t x s refl refl) refl))))))
+    ∙ (ap (λ (n : ℕ). world_of t (facts_of t s) (or_else (first_entry t s) (Some step)) (kept_authority (seg_len line) (entry_authority t s)) (head_of line t (x ∷ s)) (n - head t s) (last_number t s)) (sym parts.1)
+    ∙ (ap (λ (e : Option DirSeg). world_of t (facts_of t s) e (kept_authority (seg_len line) (entry_authority t s)) (head_of line t (x ∷ s)) (limit_place line t (x ∷ s) - head t s) (last_number t s)) (sym (first_next t ms u step zone f s its))
+    ∙ (ap (λ (n : ℕ). world_of t (facts_of t s) (first_entry t (x ∷ s)) (kept_authority (seg_len line) (entry_authority t s)) (head_of line t (x ∷ s)) (limit_place line t (x ∷ s) - n) (last_number t s)) (sym (head_still t x s refl refl))
+    ∙ (ap (λ (g : Option Facts). world_of t g (first_entry t (x ∷ s)) (kept_authority (seg_len line) (entry_authority t s)) (head_of line t (x ∷ s)) (limit_place line t (x ∷ s) - head t (x ∷ s)) (last_number t s)) (sym (facts_still t x s refl))
+    ∙ (ap (λ (h : Option HeldPath). world_of t (facts_of t (x ∷ s)) (first_entry t (x ∷ s)) (kept_authority (seg_len line) h) (head_of line t (x ∷ s)) (limit_place line t (x ∷ s) - head t (x ∷ s)) (last_number t s)) (sym (authority_still t x s refl))
+    ∙ ap (λ (n : ℕ). world_of t (facts_of t (x ∷ s)) (first_entry t (x ∷ s)) (kept_authority (seg_len line) (entry_authority t (x ∷ s))) (head_of line t (x ∷ s)) (limit_place line t (x ∷ s) - head t (x ∷ s)) n) (sym (last_still t x s refl refl))))))))))))
     (λ other. find_other t u.0 (asked_at_portal step) p.world.trains (λ y. refl) other
     ∙ (k.trains t ∙ sym (world_same line t x s (record { facts = refl; entry = rw other refl; off = refl; still = refl; taken = refl }))))
 
@@ -153,7 +167,7 @@ entry_linked line ms u step zone f s p y one declared k sound after is =
     world_linked line s p x p.world.clock (change_train u.0 (asked_at_portal step) p.world.trains) y one k (record {
       by_world = refl;
       time = k.time ∙ clock_still x s refl;
-      found = λ t. entry_found_now line t ms u step zone f s p k (sound t);
+      found = λ t. entry_found_now line t ms u step zone f s p one.valid k (sound t);
       silent = λ t. entry_silent t ms u step zone f;
       count = length_change u.0 (asked_at_portal step) p.world.trains ∙ (k.count ∙ sym (as_many x s refl));
       unasked = λ t d. by_test (nat_eq u.0 t)

@@ -17,11 +17,13 @@ use Rattle.plain_state.specs.declared.WorldTrain.{WorldTrain}
 use Rattle.plain_state.specs.World.{find_train}
 use Rattle.plain_state.specs.Zone.{find_way, hold_has}
 use Rattle.plain_state.specs.Plain.{Plain, zone_id, by_world as world_next}
-use Rattle.plain_state.specs.Relation.{kept_authority, world_of, world_train, zone_train, Linked}
+use Rattle.plain_state.specs.Relation.{world_train, zone_train, Linked}
 use Rattle.motion_laws.proofs.Notions.{same_told, entered_same}
+use Rattle.journey_laws.proofs.Journey.{journey_still}
 use Rattle.sound_laws.proofs.Sound.{Sound}
+use Rattle.authority_laws.proofs.Most_of.{last_quiet}
 use Rattle.link_laws.proofs.Shown.{fronts_are, holds_are}
-use Rattle.link_laws.proofs.Unissued.{NoAuth, last_same}
+use Rattle.link_laws.proofs.Unissued.{NoAuth}
 use Rattle.link_laws.proofs.Zone_idle.{idle, known_idle, now_still, zone_idle}
 
 -- A train of the world by its parts.
@@ -31,9 +33,6 @@ head_at line first on at =
     if on
     then Some (record { step = last_step (track_to line first at); mark = length (track_to line first at) - 1; offset = offset_to (seg_len line) (track_to line first at) at })
     else None
-
-abbrev pub train_by : Line → ℕ → Option Facts → Option DirSeg → Option HeldPath → Bool → ℕ → ℕ → ℕ → Option WorldTrain
-train_by line t facts first entry on at limit last = world_of t facts first (kept_authority (seg_len line) entry) (head_at line first on at) (limit - at) last
 
 -- What an entry leaves of a train of the world that it does not speak of.
 pub record StillWorld (t : ℕ) (x : Made) : Type 0 where
@@ -73,7 +72,8 @@ entry_still t x s h = same_told (λ (y : Made). entry_in t y.event) x s h
 
 pub world_same : (line : Line) (t : ℕ) (x : Made) (s : Story) → StillWorld t x → world_train line t (x ∷ s) ≡ world_train line t s
 world_same line t x s h =
-    rw (facts_still t x s h.facts, entry_still t x s h.entry, authority_still t x s h.taken, entered_same t x s h.off, head_still t x s h.off h.still, limit_still t x s h.off h.taken, last_still t x s h.off h.taken) refl
+    let j = journey_still line t x s (rw (h.entry, h.off, h.still) refl) in
+    rw (j, facts_still t x s h.facts, entry_still t x s h.entry, authority_still t x s h.taken, entered_same t x s h.off, head_still t x s h.off h.still, limit_still t x s h.off h.taken, last_still t x s h.off h.taken) refl
 
 -- Parts that are kept.
 
@@ -150,7 +150,7 @@ world_linked line s p x ms trains y one k m sound after is =
           ∙ (ap (λ (xs : List (ℕ × Msg)). sent 0 (zone_id line) s ++ to_actor (zone_id line) xs) is
           ∙ sym (sent_by 0 (zone_id line) x s here)));
       to_world = k.to_world ∙ sym (sent_else (zone_id line) 0 x s other);
-      few = λ t. let a = k.few t in let b = last_same t x s (m.silent t) in omega (arith, a, b);
+      few = λ t. let a = k.few t in let b = last_quiet t x s (m.silent t) in omega (arith, a, b);
       marks = λ t w found. let a = k.marks t w found in omega (arith, a);
       unasked = m.unasked;
       stays_off = m.stays_off;

@@ -24,14 +24,17 @@ use Rattle.plain_state.specs.World.{find_train, change_train, head_at_entry, kep
 use Rattle.plain_state.specs.Plain.{Plain, by_world as world_next}
 use Rattle.plain_state.specs.Relation.{kept_authority, head_of, world_of, world_train, Linked}
 use Rattle.motion_laws.proofs.Notions.{both, ever_now}
-use Rattle.motion_laws.proofs.Stays.{entered_stays}
+use Rattle.motion_laws.proofs.Stays.{entered_stays, first_stays}
 use Rattle.motion_laws.proofs.Issued.{AllIn}
 use Rattle.sound_laws.proofs.Sound.{Sound}
+use Rattle.way_laws.proofs.Lines.{portal_on_line}
+use Rattle.definitions.specs.Rules.{is_line}
+use Rattle.journey_laws.proofs.Journey.{journey_track}
 use Rattle.front_laws.proofs.Heads.{on_controls}
 use Rattle.link_laws.proofs.World_trains.{mapped, find_change, find_other, length_change}
 use Rattle.link_laws.proofs.Unissued.{NoAuth}
 use Rattle.link_laws.proofs.World_moves.{head_at, StillWorld, last_still, authority_still, facts_still, entry_still, world_same, undeclared_before, authority_stays, unasked_same, off_same, authorized_same, as_many, world_linked}
-use Rattle.link_laws.proofs.Limits.{head_moves, limit_same, head_at_length}
+use Rattle.link_laws.proofs.Limits.{head_found, head_moves, limit_same, head_at_length}
 use Rattle.link_laws.proofs.World_linked.{clock_still}
 
 -- A train comes on.
@@ -74,13 +77,17 @@ module _ (line : Line) (t ms : ℕ) (u : TrainId) (a : Option ℕ) (s : Story) (
   unfolding head
   head_next = rw its refl
 
-  enter_now : (h : HeldPath) (f : Facts) → entry_authority t s ≡ Some h → facts_of t s ≡ Some f → Sound line t s
+  enter_now : (h : HeldPath) (f : Facts) → entry_authority t s ≡ Some h → facts_of t s ≡ Some f → is_line line ≡ true → Sound line t s
       → mapped come_on (world_train line t s) ≡ world_train line t (enter_entry ms u a ∷ s)
-  enter_now h f held fact sound =
+  enter_now h f held fact valid sound =
       let e = sound.authorized.entry h held in
       let len = seg_len line in
       let long : long_of t s ≡ f.long = ap (λ (y : Option Facts). (facts_or y).long) fact in
       let room = e.first.room in
+      let st = e.first.step in
+      let journey_next : journey line t (x ∷ s) ≡ track_to line (first_entry t s) f.long =
+      journey_track line t st valid (portal_on_line line st valid e.first.portal) (x ∷ s) (first_stays t x s st e.first.first) ∙ ap (λ (p : ℕ). track_to line (Some st) p) (head_next ∙ long)
+      ∙ ap (λ (y : Option DirSeg). track_to line y f.long) (sym e.first.first) in
       let head_is : head_at line (first_entry t s) true f.long ≡ head_at_entry (first_entry t s) f.long =
       ap (λ (y : Option DirSeg). head_at line y true f.long) e.first.first
       ∙ (head_at_length line e.first.step f.long (omega (arith, long, room)) ∙ sym (ap (λ (y : Option DirSeg). head_at_entry y f.long) e.first.first)) in
@@ -89,15 +96,15 @@ module _ (line : Line) (t ms : ℕ) (u : TrainId) (a : Option ℕ) (s : Story) (
       ∙ (ap (λ (y : Option HeldPath). mapped come_on (world_of t (Some f) (first_entry t s) (kept_authority len y) (head_of line t s) (limit_place line t s - head t s) (last_number t s))) held
       ∙ (ap (λ (y : Option Head). world_of t (Some f) (first_entry t s) (kept_authority len (Some h)) y (kept_limit (kept_authority len (Some h)) - f.long) 1) (sym head_is)
       ∙ (ap (λ (n : ℕ). world_of t (Some f) (first_entry t s) (kept_authority len (Some h)) (head_at line (first_entry t s) true f.long) (n - f.long) 1) limit_is
-      ∙ rw (facts_still t x s refl, entry_still t x s refl, authority_still t x s refl, on_next, head_next ∙ long, limit_next, last_next, fact, held) refl)))
+      ∙ rw (facts_still t x s refl, entry_still t x s refl, authority_still t x s refl, on_next, journey_next, head_next ∙ long, limit_next, last_next, fact, held) refl)))
 
 some_value : {A : Type 0} (o : Option A) → is_some o ≡ true → (x : A) × (o ≡ Some x)
 some_value None h = absurd cc
 some_value (Some x) h = (x, refl)
 
-enter_found : (line : Line) (t ms : ℕ) (u : TrainId) (a : Option ℕ) (s : Story) (p : Plain) → is_declared u.0 s ≡ true → is_some (entry_authority u.0 s) ≡ true → Linked line s p → Sound line t s
+enter_found : (line : Line) (t ms : ℕ) (u : TrainId) (a : Option ℕ) (s : Story) (p : Plain) → is_line line ≡ true → is_declared u.0 s ≡ true → is_some (entry_authority u.0 s) ≡ true → Linked line s p → Sound line t s
     → find_train t (change_train u.0 come_on p.world.trains) ≡ world_train line t (enter_entry ms u a ∷ s)
-enter_found line t ms u a s p declared some k sound =
+enter_found line t ms u a s p valid declared some k sound =
     let x = enter_entry ms u a in
     by_test (nat_eq u.0 t)
     (λ its.
@@ -107,7 +114,7 @@ enter_found line t ms u a s p declared some k sound =
     ap (λ (n : ℕ). find_train t (change_train n come_on p.world.trains)) same
     ∙ (find_change t come_on p.world.trains (λ y. refl)
     ∙ (ap (λ (y : Option WorldTrain). mapped come_on y) (k.trains t)
-    ∙ enter_now line t ms u a s its h.0 f.0 h.1 f.1 sound)))
+    ∙ enter_now line t ms u a s its h.0 f.0 h.1 f.1 valid sound)))
     (λ other. find_other t u.0 come_on p.world.trains (λ y. refl) other
     ∙ (k.trains t ∙ sym (world_same line t x s (record { facts = refl; entry = refl; off = other; still = refl; taken = refl }))))
 
@@ -119,7 +126,7 @@ enter_linked line ms u a s p y one declared some k sound after is =
     world_linked line s p x p.world.clock (change_train u.0 come_on p.world.trains) y one k (record {
       by_world = refl;
       time = k.time ∙ clock_still x s refl;
-      found = λ t. enter_found line t ms u a s p declared some k (sound t);
+      found = λ t. enter_found line t ms u a s p one.valid declared some k (sound t);
       silent = λ t. enter_silent t ms u a;
       count = length_change u.0 come_on p.world.trains ∙ (k.count ∙ sym (as_many x s refl));
       unasked = λ t. unasked_same t x s refl (k.unasked t);
@@ -233,7 +240,8 @@ step_moved line t ms moves s one on ahead sound after =
     let head_now = head_stepped t ms moves s in
     let limit = limit_same line t x s tt sound after on on2 first last in
     let moved_head_ : head_of line t (x ∷ s) ≡ moved_on line mm (head_of line t s) =
-    rw (on2, first, head_now, on) (head_moves line t s one.valid sound c mm on ahead) in
+    head_found line t (x ∷ s) one.valid after on2 ∙ ap (λ (f : Option DirSeg). head_at line f true (head t (x ∷ s))) first ∙ ap (λ (p : ℕ). head_at line (first_entry t s) true p) head_now
+    ∙ head_moves line t s one.valid sound c mm on ahead ∙ ap (λ (h : Option Head). moved_on line mm h) (sym (head_found line t s one.valid sound on)) in
     let room : limit_place line t s - head t s - mm ≡ limit_place line t (x ∷ s) - head t (x ∷ s) = omega (arith, limit, head_now) in
     mapped_moved line t mm (facts_of t s) (first_entry t s) (kept_authority len (entry_authority t s)) (head_of line t s) (limit_place line t s - head t s) (last_number t s)
     ∙ (ap (λ (h : Option Head). world_of t (facts_of t s) (first_entry t s) (kept_authority len (entry_authority t s)) h (limit_place line t s - head t s - mm) (last_number t s)) (sym moved_head_)

@@ -11,8 +11,9 @@ use Rattle.definitions.specs.declared.message.Msg.TheVariants as msg
 use Rattle.definitions.specs.Track.{Line, seg_len}
 use Rattle.definitions.specs.Story.{Entry as Made, Story}
 use Rattle.definitions.specs.World.{first_entry}
-use Rattle.definitions.specs.Control.{grants_entry, controls, known_facts, now_of, now_with, took_time, answer_number, counted, last_issued}
-use Rattle.definitions.specs.Longest.{longest_end, longest_route}
+use Rattle.definitions.specs.Control.{grants_entry, controls, known_facts, now_of, now_with, took_time, last_issued}
+use Rattle.definitions.specs.Fold.{account}
+use Rattle.definitions.specs.Longest.{counted, longest_end, longest_route}
 use Rattle.definitions.specs.Fronts.{possible_front, is_used, uses_report, report_time}
 use Rattle.definitions.specs.Steps.{Effect}
 use Rattle.definitions.specs.Safe.{IsLineOfOneZone}
@@ -27,10 +28,12 @@ use Rattle.sound_laws.proofs.Sound.{Sound}
 use Rattle.front_laws.proofs.Front_moves.{known_same, now_acted}
 use Rattle.front_laws.proofs.Front_numbers.{grown_to, fronts_left}
 use Rattle.front_laws.proofs.Front_ends.{ends_grown, ends_narrowed}
+use Rattle.authority_laws.proofs.Unshrunk.{none_takes, answers, counted_unanswered}
+use Rattle.authority_laws.proofs.Most_of.{last_quiet}
 use Rattle.link_laws.proofs.World_trains.{mapped}
 use Rattle.link_laws.proofs.Way_of.{way_of}
 use Rattle.link_laws.proofs.Kept_train.{kept_train, zone_kept, kept_grown, zone_behind}
-use Rattle.link_laws.proofs.Unissued.{NoAuth, last_same, end_same, controls_same, counted_none}
+use Rattle.link_laws.proofs.Unissued.{NoAuth, end_same, controls_same}
 use Rattle.link_laws.proofs.Zone_idle.{no_train, first_same}
 use Rattle.link_laws.proofs.Zone_moves.{zone_made}
 
@@ -66,12 +69,12 @@ steps_same line t x s one sound after c d end =
 -- the plain growth of its fronts
 pub grown_is : (line : Line) (m : Msg) (s : Story) (t : ℕ) → IsLineOfOneZone line → (sound : Sound line t s) → (c : controls (zone_id line) t s ≡ true) → mapped (grown_train (now_with (zone_id line) s m)) (zone_train line t s)
     ≡ Some (kept_train (seg_len line) t (known_facts (zone_id line) t s) (longest_route line t s) (sound.fronts c).lo (grown_to line t s m (sound.fronts c).hi) (longest_end line t s)
-    (now_with (zone_id line) s m) (report_time line (zone_id line) t s) (last_issued t s) (counted t s))
+    (now_with (zone_id line) s m) (report_time line (zone_id line) t s) (last_issued t s) (counted line t s))
 grown_is line m s t one sound c =
     let w = way_of line t s one.valid sound c in
     ap (λ (y : Option ZoneTrain). mapped (grown_train (now_with (zone_id line) s m)) y) (zone_kept line t s one.valid sound c)
     ∙ ap (λ (y : ZoneTrain). Some y) (kept_grown (now_with (zone_id line) s m) (seg_len line) t (known_facts (zone_id line) t s) (longest_route line t s) (sound.fronts c).lo (sound.fronts c).hi (longest_end line t s)
-    (now_of (zone_id line) s) (report_time line (zone_id line) t s) (last_issued t s) (counted t s) w.ordered w.within)
+    (now_of (zone_id line) s) (report_time line (zone_id line) t s) (last_issued t s) (counted line t s) w.ordered w.within)
 
 module _ (line : Line) (z number : ℕ) (m : Msg) (e : Effect) (s : Story) (one : IsLineOfOneZone line) (zone : suc z ≡ zone_id line) (t : ℕ) (sound : Sound line t s) (after : Sound line t (zone_made z number m e ∷ s)) where
   abbrev x : Made
@@ -95,13 +98,13 @@ module _ (line : Line) (z number : ℕ) (m : Msg) (e : Effect) (s : Story) (one 
       numbers_are : (lo hi report : ℕ) → (after.fronts controlled_still).lo ≡ lo → (after.fronts controlled_still).hi ≡ hi → report_time line (zone_id line) t (zone_made z number m e ∷ s) ≡ report
           → zone_train line t (zone_made z number m e ∷ s)
           ≡ Some (kept_train (seg_len line) t (known_facts (zone_id line) t s) (longest_route line t s) lo hi (longest_end line t s)
-          (now_with (zone_id line) s m) report (last_issued t (zone_made z number m e ∷ s)) (counted t (zone_made z number m e ∷ s)))
+          (now_with (zone_id line) s m) report (last_issued t (zone_made z number m e ∷ s)) (counted line t (zone_made z number m e ∷ s)))
       numbers_are lo hi report a b r =
           let len = seg_len line in
           let k = known_facts (zone_id line) t s in
           let d = controlled_still in
           let l = last_issued t (x ∷ s) in
-          let n = counted t (x ∷ s) in
+          let n = counted line t (x ∷ s) in
           zone_behind line t s (x ∷ s) one.valid sound after c d (first_same line t x s sound c) (known_same (zone_id line) t x s none) end
           ∙ (ap (λ (q : ℕ). Some (kept_train len t k (longest_route line t s) q (after.fronts d).hi (longest_end line t s) (now_of (zone_id line) (x ∷ s)) (report_time line (zone_id line) t (x ∷ s)) l n)) a
           ∙ (ap (λ (q : ℕ). Some (kept_train len t k (longest_route line t s) lo q (longest_end line t s) (now_of (zone_id line) (x ∷ s)) (report_time line (zone_id line) t (x ∷ s)) l n)) b
@@ -111,14 +114,14 @@ module _ (line : Line) (z number : ℕ) (m : Msg) (e : Effect) (s : Story) (one 
       pub behind_unused : is_used line (zone_id line) t s (possible_front line (zone_id line) t s) m ≡ false
           → zone_train line t (zone_made z number m e ∷ s)
           ≡ Some (kept_train (seg_len line) t (known_facts (zone_id line) t s) (longest_route line t s) (sound.fronts c).lo (grown_to line t s m (sound.fronts c).hi) (longest_end line t s)
-          (now_with (zone_id line) s m) (report_time line (zone_id line) t s) (last_issued t (zone_made z number m e ∷ s)) (counted t (zone_made z number m e ∷ s)))
+          (now_with (zone_id line) s m) (report_time line (zone_id line) t s) (last_issued t (zone_made z number m e ∷ s)) (counted line t (zone_made z number m e ∷ s)))
       behind_unused h =
-          let ends = ends_grown line t x s (sound.fronts c) (after.fronts controlled_still) none 0 m c acts refl h in
+          let ends = ends_grown line t x s (sound.fronts c) (after.fronts controlled_still) none 0 m c acts refl h (none_takes t (account line t s) m sound.authorized.unshrunk) in
           numbers_are (sound.fronts c).lo (grown_to line t s m (sound.fronts c).hi) (report_time line (zone_id line) t s) ends.0 ends.1 (report_unused line (zone_id line) t x s none h)
 
   -- where nothing but the growth comes of it
   pub zone_still : ((c : controls (zone_id line) t s ≡ true) → longest_end line t (zone_made z number m e ∷ s) ≡ longest_end line t s) → last_issued t (zone_made z number m e ∷ s) ≡ last_issued t s
-      → grants_entry (zone_id line) t (zone_made z number m e) ≡ false → is_used line (zone_id line) t s (possible_front line (zone_id line) t s) m ≡ false → counted t (zone_made z number m e ∷ s) ≡ counted t s
+      → grants_entry (zone_id line) t (zone_made z number m e) ≡ false → is_used line (zone_id line) t s (possible_front line (zone_id line) t s) m ≡ false → counted line t (zone_made z number m e ∷ s) ≡ counted line t s
       → zone_train line t (zone_made z number m e ∷ s) ≡ mapped (grown_train (now_with (zone_id line) s m)) (zone_train line t s)
   zone_still end last none unused counts = by_test (controls (zone_id line) t s)
       (λ c.
@@ -126,16 +129,16 @@ module _ (line : Line) (z number : ℕ) (m : Msg) (e : Effect) (s : Story) (one 
       let k = known_facts (zone_id line) t s in
       let hi = grown_to line t s m (sound.fronts c).hi in
       behind_unused c none (end c) unused
-      ∙ (ap (λ (q : ℕ). Some (kept_train len t k (longest_route line t s) (sound.fronts c).lo hi (longest_end line t s) (now_with (zone_id line) s m) (report_time line (zone_id line) t s) q (counted t (x ∷ s)))) last
+      ∙ (ap (λ (q : ℕ). Some (kept_train len t k (longest_route line t s) (sound.fronts c).lo hi (longest_end line t s) (now_with (zone_id line) s m) (report_time line (zone_id line) t s) q (counted line t (x ∷ s)))) last
       ∙ (ap (λ (q : ℕ). Some (kept_train len t k (longest_route line t s) (sound.fronts c).lo hi (longest_end line t s) (now_with (zone_id line) s m) (report_time line (zone_id line) t s) (last_issued t s) q)) counts
       ∙ sym (grown_is line m s t one sound c))))
       (λ n. no_train line t (x ∷ s) after (controls_same (zone_id line) t x s none ∙ n) ∙ sym (ap (λ (y : Option ZoneTrain). mapped (grown_train (now_with (zone_id line) s m)) y) (no_train line t s sound n)))
 
   -- and of the train nothing is issued
-  pub zone_silent : NoAuth t e.issued → grants_entry (zone_id line) t (zone_made z number m e) ≡ false → is_used line (zone_id line) t s (possible_front line (zone_id line) t s) m ≡ false → answer_number t (Some (0, m)) ≡ 0
+  pub zone_silent : NoAuth t e.issued → grants_entry (zone_id line) t (zone_made z number m e) ≡ false → is_used line (zone_id line) t s (possible_front line (zone_id line) t s) m ≡ false → answers t (Some (0, m)) ≡ false
       → zone_train line t (zone_made z number m e ∷ s) ≡ mapped (grown_train (now_with (zone_id line) s m)) (zone_train line t s)
   zone_silent a none unused uncounted =
-      zone_still (λ c. end_same line t x s a sound after c (controlled_still c none) (first_same line t x s sound c)) (last_same t x s a) none unused (counted_none t x s uncounted)
+      zone_still (λ c. end_same line t x s a sound after c (controlled_still c none) (first_same line t x s sound c)) (last_quiet t x s a) none unused (counted_unanswered line t x s sound.authorized.unshrunk uncounted)
 
 -- a used report
 module _ (line : Line) (z number : ℕ) (u : TrainId) (time mark : ℕ) (offset : ℤ) (integrity : Bool) (e : Effect) (s : Story) (one : IsLineOfOneZone line) (zone : suc z ≡ zone_id line) (t : ℕ) (sound : Sound line t s)
@@ -149,7 +152,7 @@ module _ (line : Line) (z number : ℕ) (u : TrainId) (time mark : ℕ) (offset 
       ≡ Some (kept_train (seg_len line) t (known_facts (zone_id line) t s) (longest_route line t s)
       (fronts_left line t s (msg.Report u time mark offset integrity) (sound.fronts c).lo (sound.fronts c).hi time mark offset integrity).lo
       (fronts_left line t s (msg.Report u time mark offset integrity) (sound.fronts c).lo (sound.fronts c).hi time mark offset integrity).hi (longest_end line t s)
-      (now_with (zone_id line) s (msg.Report u time mark offset integrity)) (max (report_time line (zone_id line) t s) time) (last_issued t s) (counted t s))
+      (now_with (zone_id line) s (msg.Report u time mark offset integrity)) (max (report_time line (zone_id line) t s) time) (last_issued t s) (counted line t s))
   behind_used none a used =
       let y = zone_made z number r e in
       let len = seg_len line in
@@ -160,5 +163,5 @@ module _ (line : Line) (z number : ℕ) (u : TrainId) (time mark : ℕ) (offset 
       let ends = ends_narrowed line t y s (sound.fronts c) (after.fronts d) none 0 u time mark offset integrity c here refl used in
       numbers_are line z number r e s one zone t sound after c none (end_same line t y s a sound after c d (first_same line t y s sound c)) left.lo left.hi (max (report_time line (zone_id line) t s) time) ends.0 ends.1
       (report_used line (zone_id line) t y s none here used)
-      ∙ (ap (λ (q : ℕ). Some (kept_train len t k (longest_route line t s) left.lo left.hi (longest_end line t s) (now_with (zone_id line) s r) (max (report_time line (zone_id line) t s) time) q (counted t (y ∷ s)))) (last_same t y s a)
-      ∙ ap (λ (q : ℕ). Some (kept_train len t k (longest_route line t s) left.lo left.hi (longest_end line t s) (now_with (zone_id line) s r) (max (report_time line (zone_id line) t s) time) (last_issued t s) q)) (counted_none t y s refl))
+      ∙ (ap (λ (q : ℕ). Some (kept_train len t k (longest_route line t s) left.lo left.hi (longest_end line t s) (now_with (zone_id line) s r) (max (report_time line (zone_id line) t s) time) q (counted line t (y ∷ s)))) (last_quiet t y s a)
+      ∙ ap (λ (q : ℕ). Some (kept_train len t k (longest_route line t s) left.lo left.hi (longest_end line t s) (now_with (zone_id line) s r) (max (report_time line (zone_id line) t s) time) (last_issued t s) q)) (counted_unanswered line t y s sound.authorized.unshrunk refl))

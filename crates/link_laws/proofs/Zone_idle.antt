@@ -7,20 +7,22 @@ use Rattle.definitions.specs.Track.{Line, seg_len}
 use Rattle.definitions.specs.Ways.{PlainWay}
 use Rattle.definitions.specs.Story.{Entry as Made, Story}
 use Rattle.definitions.specs.World.{first_entry}
-use Rattle.definitions.specs.Control.{grants_entry, asker, controls, known_facts, known_trains, now_of, counted, last_issued}
-use Rattle.definitions.specs.Longest.{longest_end, longest_route}
+use Rattle.definitions.specs.Control.{grants_entry, asker, controls, known_facts, known_trains, now_of, last_issued}
+use Rattle.definitions.specs.Longest.{counted, longest_end, longest_route}
 use Rattle.definitions.specs.Fronts.{report_time}
 use Rattle.definitions.specs.Safe.{IsLineOfOneZone}
 use Rattle.plain_state.specs.Plain.{zone_id}
 use Rattle.plain_state.specs.Relation.{zone_train_of, zone_train}
 use Rattle.motion_laws.proofs.Stays.{first_stays}
 use Rattle.sound_laws.proofs.Sound.{Sound}
+use Rattle.front_laws.proofs.Entries.{counted_else}
 use Rattle.front_laws.proofs.Front_moves.{known_same, now_idle}
 use Rattle.front_laws.proofs.Front_ends.{ends_idle}
+use Rattle.authority_laws.proofs.Most_of.{last_quiet}
 use Rattle.link_laws.proofs.One_zone.{zone_positive}
 use Rattle.link_laws.proofs.Values.{no_way}
 use Rattle.link_laws.proofs.Kept_train.{kept_train, zone_kept, zone_behind}
-use Rattle.link_laws.proofs.Unissued.{NoAuth, last_same, end_same, controls_same, counted_elsewhere, world_controls, report_idle}
+use Rattle.link_laws.proofs.Unissued.{NoAuth, end_same, controls_same, world_controls, report_idle}
 
 pub no_train : (line : Line) (t : ℕ) (s : Story) → Sound line t s → controls (zone_id line) t s ≡ false → zone_train line t s ≡ None
 no_train line t s sound n = ap (λ (w : Option PlainWay). zone_train_of line (zone_id line) t s w) (no_way line t s sound n)
@@ -58,17 +60,17 @@ module _ (line : Line) (x : Made) (s : Story) (one : IsLineOfOneZone line) (worl
       let d = same ∙ c in
       let first = first_same line t x s sound c in
       let ends = ends_idle line t x s (sound.fronts c) (after.fronts d) none idle in
-      let counts = counted_elsewhere t x s (ap (λ (n : ℕ). controls n t s) world ∙ world_controls line t s one sound) in
+      let counts = counted_else line t x s (ap (λ (n : ℕ). controls n t s) world ∙ world_controls line t s one sound) in
       let len = seg_len line in
       let f = known_facts z t s in
       let steps = longest_route line t s in
       let end = longest_end line t s in
       zone_behind line t s (x ∷ s) one.valid sound after c d first (known_same z t x s none) (end_same line t x s a sound after c d first)
-      ∙ (ap (λ (n : ℕ). Some (kept_train len t f steps n (after.fronts d).hi end (now_of z (x ∷ s)) (report_time line z t (x ∷ s)) (last_issued t (x ∷ s)) (counted t (x ∷ s)))) ends.0
-      ∙ (ap (λ (n : ℕ). Some (kept_train len t f steps (sound.fronts c).lo n end (now_of z (x ∷ s)) (report_time line z t (x ∷ s)) (last_issued t (x ∷ s)) (counted t (x ∷ s)))) ends.1
-      ∙ (ap (λ (n : ℕ). Some (kept_train len t f steps (sound.fronts c).lo (sound.fronts c).hi end n (report_time line z t (x ∷ s)) (last_issued t (x ∷ s)) (counted t (x ∷ s)))) now_still
-      ∙ (ap (λ (n : ℕ). Some (kept_train len t f steps (sound.fronts c).lo (sound.fronts c).hi end (now_of z s) n (last_issued t (x ∷ s)) (counted t (x ∷ s)))) (report_idle line z t x s none idle)
-      ∙ (ap (λ (n : ℕ). Some (kept_train len t f steps (sound.fronts c).lo (sound.fronts c).hi end (now_of z s) (report_time line z t s) n (counted t (x ∷ s)))) (last_same t x s a)
+      ∙ (ap (λ (n : ℕ). Some (kept_train len t f steps n (after.fronts d).hi end (now_of z (x ∷ s)) (report_time line z t (x ∷ s)) (last_issued t (x ∷ s)) (counted line t (x ∷ s)))) ends.0
+      ∙ (ap (λ (n : ℕ). Some (kept_train len t f steps (sound.fronts c).lo n end (now_of z (x ∷ s)) (report_time line z t (x ∷ s)) (last_issued t (x ∷ s)) (counted line t (x ∷ s)))) ends.1
+      ∙ (ap (λ (n : ℕ). Some (kept_train len t f steps (sound.fronts c).lo (sound.fronts c).hi end n (report_time line z t (x ∷ s)) (last_issued t (x ∷ s)) (counted line t (x ∷ s)))) now_still
+      ∙ (ap (λ (n : ℕ). Some (kept_train len t f steps (sound.fronts c).lo (sound.fronts c).hi end (now_of z s) n (last_issued t (x ∷ s)) (counted line t (x ∷ s)))) (report_idle line z t x s none idle)
+      ∙ (ap (λ (n : ℕ). Some (kept_train len t f steps (sound.fronts c).lo (sound.fronts c).hi end (now_of z s) (report_time line z t s) n (counted line t (x ∷ s)))) (last_quiet t x s a)
       ∙ (ap (λ (n : ℕ). Some (kept_train len t f steps (sound.fronts c).lo (sound.fronts c).hi end (now_of z s) (report_time line z t s) (last_issued t s) n)) counts
       ∙ sym (zone_kept line t s one.valid sound c))))))))
       (λ n. no_train line t (x ∷ s) after (same ∙ n) ∙ sym (no_train line t s sound n))

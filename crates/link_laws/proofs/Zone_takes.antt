@@ -14,8 +14,8 @@ use Rattle.definitions.specs.Track.{Line, seg_len}
 use Rattle.definitions.specs.Ways.{PlainWay, way_between}
 use Rattle.definitions.specs.Story.{Story}
 use Rattle.definitions.specs.World.{is_auth}
-use Rattle.definitions.specs.Control.{controls, knows, knows_most, known_facts, now_with, counted, last_issued}
-use Rattle.definitions.specs.Longest.{longest_end, longest_route}
+use Rattle.definitions.specs.Control.{controls, knows, knows_most, known_facts, now_with, last_issued}
+use Rattle.definitions.specs.Longest.{counted, longest_end, longest_route}
 use Rattle.definitions.specs.Fronts.{possible_front, is_used, report_time, silent_by}
 use Rattle.definitions.specs.Authority.{way, holder_of}
 use Rattle.definitions.specs.Limit.{Reach, path_of, reach_from, barring, limit}
@@ -128,7 +128,7 @@ module _ (line : Line) (z number : ℕ) (s : Story) (p : Plain) (one : IsLineOfO
     ask_by : (w : Option PlainWay) → way line (zone_id line) u.0 s ≡ w → AfterAll ask_m (ask_effect w) → Moves ask_m (ask_effect w) (ways_asked (seg_len line) u.0 steps.items reach ways)
     ask_by None is after =
         let none : nat_eq reach.distance 0 ≡ true =
-        ap (λ (w : Option PlainWay). nat_eq (reach_from line (controls (zone_id line) u.0 s && nat_lt 0 (counted u.0 s)) (silent_by line (report_time line (zone_id line) u.0 s) (now_with (zone_id line) s ask_m)) (path_of w) steps.items to (barring line (zone_id line) u.0 s)).distance 0) is in
+        ap (λ (w : Option PlainWay). nat_eq (reach_from line (controls (zone_id line) u.0 s && nat_lt 0 (counted line u.0 s)) (silent_by line (report_time line (zone_id line) u.0 s) (now_with (zone_id line) s ask_m)) (path_of w) steps.items to (barring line (zone_id line) u.0 s)).distance 0) is in
         rw none (denied after)
     ask_by (Some w) is after = by_test (controls (zone_id line) u.0 s)
         (λ c. subst (λ (o : Option PlainWay). AfterAll ask_m (ask_effect o) → Moves ask_m (ask_effect o) (ways_asked (seg_len line) u.0 steps.items reach ways)) (sym ((way_of line u.0 s one.valid (sound u.0) c).is) ∙ is)
@@ -170,14 +170,14 @@ module _ (line : Line) (z number : ℕ) (s : Story) (p : Plain) (one : IsLineOfO
       quiet now_after =
           quiet_moves line z number (msg.Time time u) (issuing nothing lines) s p ways one zone k sound now_after g (λ v. and-false (nat_eq (suc z) (zone_id line))) (λ v. none_silent v lines) (λ v. refl) (λ v. refl)
 
-      time_case : (b : Bool) (w : Option PlainWay) → controls (zone_id line) u.0 s ≡ b → way line (zone_id line) u.0 s ≡ w → AfterAll (msg.Time time u) (zone_time b (counted u.0 s) (last_issued u.0 s) u w)
-          → Moves (msg.Time time u) (zone_time b (counted u.0 s) (last_issued u.0 s) u w) ways
+      time_case : (b : Bool) (w : Option PlainWay) → controls (zone_id line) u.0 s ≡ b → way line (zone_id line) u.0 s ≡ w → AfterAll (msg.Time time u) (zone_time b (counted line u.0 s) (last_issued u.0 s) u w)
+          → Moves (msg.Time time u) (zone_time b (counted line u.0 s) (last_issued u.0 s) u w) ways
       time_case false w c is now_after = quiet now_after
       time_case true None c is now_after = absurd (let x : None ≡ Some _ = sym is ∙ (way_of line u.0 s one.valid (sound u.0) c).is in cc)
       time_case true (Some w) c is now_after =
-          subst (λ (o : Option PlainWay). AfterAll (msg.Time time u) (zone_time true (counted u.0 s) (last_issued u.0 s) u o) → Moves (msg.Time time u) (zone_time true (counted u.0 s) (last_issued u.0 s) u o) ways)
+          subst (λ (o : Option PlainWay). AfterAll (msg.Time time u) (zone_time true (counted line u.0 s) (last_issued u.0 s) u o) → Moves (msg.Time time u) (zone_time true (counted line u.0 s) (last_issued u.0 s) u o) ways)
           (sym ((way_of line u.0 s one.valid (sound u.0) c).is) ∙ is)
-          (λ later. by_test (nat_lt (counted u.0 s) (last_issued u.0 s))
+          (λ later. by_test (nat_lt (counted line u.0 s) (last_issued u.0 s))
           (λ y. rw y (again_moves line z number time u s one zone sound c lines (λ t. rw y at (later t)) p ways k g))
           (λ n. rw n (quiet (λ t. rw n at (later t))))) now_after
   take_moves (msg.Answer u time n taken) ways g after = answered_moves line z number u time n taken (issuing nothing lines) s one zone sound after (λ v. none_silent v lines) p ways k g

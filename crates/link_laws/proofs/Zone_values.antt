@@ -11,7 +11,8 @@ use Rattle.definitions.specs.Track.{Line, seg_len, owner}
 use Rattle.definitions.specs.Rules.{is_line}
 use Rattle.definitions.specs.Ways.{PlainWay}
 use Rattle.definitions.specs.Story.{Story, sent}
-use Rattle.definitions.specs.Control.{controls, knows, knows_most, known_trains, counted, last_issued}
+use Rattle.definitions.specs.Control.{controls, knows, knows_most, known_trains, last_issued}
+use Rattle.definitions.specs.Longest.{counted}
 use Rattle.definitions.specs.Fronts.{report_time, silent_by}
 use Rattle.definitions.specs.Authority.{way, way_has, held, least_of, holder_of}
 use Rattle.definitions.specs.Limit.{reach_from, path_of, barring, limit}
@@ -59,7 +60,7 @@ module _ (line : Line) (t : ℕ) (s : Story) (clock : ℕ) where
 
   reach_by : (w : Option PlainWay) (asked : List DirSeg) (to : ℕ) (now_ : ℕ) (held_ : Point → Bool)
       → reach_from line (ready_found (train_by w)) (silent_found line now_ (train_by w)) (path_found (train_by w)) asked to held_
-      ≡ reach_from line (is_some w && nat_lt 0 (counted t s)) (silent_by line (report_time line (zone_id line) t s) now_) (path_of w) asked to held_
+      ≡ reach_from line (is_some w && nat_lt 0 (counted line t s)) (silent_by line (report_time line (zone_id line) t s) now_) (path_of w) asked to held_
   reach_by None asked to now_ held_ = refl
   reach_by (Some w) asked to now_ held_ = refl
 
@@ -121,8 +122,8 @@ module _ (line : Line) (s : Story) (valid : is_line line ≡ true) (sound : (t :
       let w = way line z t s in
       ap (λ (x : Option ZoneTrain). reach_from line (ready_found x) (silent_found line now_ x) (path_found x) asked to (barring_plain line z ways t)) (g.found t)
       ∙ (reach_by line t s clock w asked to now_ (barring_plain line z ways t)
-      ∙ (ap (λ (b : Bool). reach_from line (b && nat_lt 0 (counted t s)) (silent_by line (report_time line z t s) now_) (path_of w) asked to (barring_plain line z ways t)) (way_is_known line t s valid (sound t))
-      ∙ ap (λ (test : Point → Bool). reach_from line (controls z t s && nat_lt 0 (counted t s)) (silent_by line (report_time line z t s) now_) (path_of w) asked to test) held_same))
+      ∙ (ap (λ (b : Bool). reach_from line (b && nat_lt 0 (counted line t s)) (silent_by line (report_time line z t s) now_) (path_of w) asked to (barring_plain line z ways t)) (way_is_known line t s valid (sound t))
+      ∙ ap (λ (test : Point → Bool). reach_from line (controls z t s && nat_lt 0 (counted line t s)) (silent_by line (report_time line z t s) now_) (path_of w) asked to test) held_same))
 
 -- the messages of the link between two different actors of the line
 pub link_is : (line : Line) (s : Story) (p : Plain) → IsLineOfOneZone line → Linked line s p → (from to : ℕ) → nat_eq to from ≡ false → is_actor line to ≡ true → is_actor line from ≡ true → link p from to ≡ sent from to s

@@ -7,6 +7,3 @@ pub use definitions::event::Event;
 pub use definitions::message::Msg;
 pub use definitions::outcome::Outcome;
 pub use outs::Outs;
-
-#[cfg(test)]
-mod tests;

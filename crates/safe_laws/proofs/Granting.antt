@@ -20,8 +20,8 @@ use Rattle.definitions.specs.Track.{Line, seg_len, zone_of, is_actor}
 use Rattle.definitions.specs.Ways.{PlainWay}
 use Rattle.definitions.specs.Story.{Entry as Made, Story}
 use Rattle.definitions.specs.World.{Facts, facts_of, clock, is_auth, entry_authority, entered, last_number, first_entry}
-use Rattle.definitions.specs.Control.{controls, knows, knows_most, now_with, counted, last_issued}
-use Rattle.definitions.specs.Longest.{longest_end}
+use Rattle.definitions.specs.Control.{controls, knows, knows_most, now_with, last_issued}
+use Rattle.definitions.specs.Longest.{counted, longest_end}
 use Rattle.definitions.specs.Fronts.{is_used, possible_front, report_time, silent_by}
 use Rattle.definitions.specs.Authority.{way, holder_of}
 use Rattle.definitions.specs.Limit.{Reach, asked_way, continues, path_of, ask_of, reach_from, barring, limit}
@@ -37,7 +37,7 @@ use Rattle.motion_laws.proofs.Motion.{Timed}
 use Rattle.sound_laws.proofs.Sound.{RequestTrue, Sound}
 use Rattle.safe_laws.proofs.Zones.{actor_zone}
 use Rattle.safe_laws.proofs.Ways_held.{held_way, way_is}
-use Rattle.safe_laws.proofs.Asked.{held_way_some, held_way_within, way_track_end, reach_continues}
+use Rattle.safe_laws.proofs.Asked.{held_way_some, held_way_within, way_place_end}
 use Rattle.safe_laws.proofs.Calm.{Adds, calm_adds, no_auth_calm, added_here}
 use Rattle.safe_laws.proofs.Entry_adds.{take_made, entry_adds}
 use Rattle.safe_laws.proofs.Ask_adds.{end_one, ask_adds}
@@ -174,7 +174,7 @@ module _ (line : Line) (t z from number : ℕ) (s : Story) (lines : List Outcome
   here_way : controls (suc z) t s ≡ true → way line (suc z) t s ≡ Some w
   here_way h =
       let control = here_control h in
-      subst (λ (n : ℕ). way line n t s ≡ Some w) (sym zone) (way_is line t s l sound (sound.authorized.controlled control) (sound.fronts control))
+      subst (λ (n : ℕ). way line n t s ≡ Some w) (sym zone) (way_is line t s l sound control)
 
   -- Asks.
 
@@ -199,23 +199,20 @@ module _ (line : Line) (t z from number : ℕ) (s : Story) (lines : List Outcome
     granted_goes : nat_eq u.0 t ≡ true → controls (suc z) t s ≡ true → nat_eq (reach_of t).distance 0 ≡ false → Goes ask_message (ask_issued t)
     granted_goes its controlled some =
         let control = here_control controlled in
-        let c = sound.authorized.controlled control in
-        let f = sound.fronts control in
-        let ready = controls (suc z) t s && nat_lt 0 (counted t s) in
+        let ready = controls (suc z) t s && nat_lt 0 (counted line t s) in
         let silent = silent_by line (report_time line (suc z) t s) now_ in
         let is = here_way controlled in
         let d = (reach_of t).distance in
         let d_is : (reach_of t).distance ≡ (reach_from line ready silent (Some w.path) steps.items to (barring line (suc z) t s)).distance =
         ap (λ (v : Option PlainWay). (reach_from line ready silent (path_of v) steps.items to (barring line (suc z) t s)).distance) is in
-        let joins = reach_continues line ready silent w.path steps.items to (barring line (suc z) t s) (ap (λ (n : ℕ). nat_eq n 0) (sym d_is) ∙ some) in
         let far = subst (λ (n : ℕ). end_place len w.path + n ≤ total len (asked_way w.path.steps.items steps.items)) (sym d_is)
-        (reach_granted line ready silent w.path steps.items to (barring line (suc z) t s) (held_way_some line t s l sound c f) (held_way_within line t s l sound c f)) in
+        (reach_granted line ready silent w.path steps.items to (barring line (suc z) t s) (held_way_some line t s l sound control) (held_way_within line t s l sound control)) in
         let adding : (point : Point) → added_by line (suc z) t s ask_message point ≡ has_between len (asked_way w.path.steps.items steps.items) (end_place len w.path) (end_place len w.path + d) point =
         λ point. ap (λ (b : Bool). b && reached len (way line (suc z) t s) steps.items d point) its ∙ ap (λ (v : Option PlainWay). reached len v steps.items d point) is in
         let issued_is = ap (λ (v : Option PlainWay). (zone_ask len (suc z) u (last_issued t s) v steps.items (reach_of t)).issued) is
         ∙ granted_issued len (suc z) u (last_issued t s) w steps.items (reach_of t) some in
         subst (λ (issued : List (ℕ × Msg)). Goes ask_message issued) (sym issued_is)
-        (ask_adds line t z from number (last_issued t s + 1) d u time to steps lines s l zone its sound control joins far adding)
+        (ask_adds line t z from number (last_issued t s + 1) d u time to steps lines s l zone its sound control far adding)
 
     mine_goes : nat_eq u.0 t ≡ true → Goes ask_message (ask_issued t)
     mine_goes its = by_test (nat_eq (reach_of t).distance 0)
@@ -223,7 +220,7 @@ module _ (line : Line) (t z from number : ℕ) (s : Story) (lines : List Outcome
         (λ some. by_test (controls (suc z) t s)
         (λ y. granted_goes its y some)
         (λ no_.
-        let e = not_ready line (controls (suc z) t s && nat_lt 0 (counted t s)) (silent_by line (report_time line (suc z) t s) now_) (path_of (way line (suc z) t s)) steps.items to (barring line (suc z) t s) (rw no_ refl) in
+        let e = not_ready line (controls (suc z) t s && nat_lt 0 (counted line t s)) (silent_by line (report_time line (suc z) t s) now_) (path_of (way line (suc z) t s)) steps.items to (barring line (suc z) t s) (rw no_ refl) in
         absurd (grind (arith, nat_tests))))
 
     ask_goes : Goes ask_message (ask_issued u.0)
@@ -235,15 +232,13 @@ module _ (line : Line) (t z from number : ℕ) (s : Story) (lines : List Outcome
 
   module _ (u : TrainId) (time : ℕ) where
     abbrev time_issued : ℕ → List (ℕ × Msg)
-    time_issued n = (zone_time (controls (suc z) n s) (counted n s) (last_issued n s) u (way line (suc z) n s)).issued
+    time_issued n = (zone_time (controls (suc z) n s) (counted line n s) (last_issued n s) u (way line (suc z) n s)).issued
 
     again_goes : controls (suc z) t s ≡ true → Goes (msg.Time time u) ((0, msg.Auth u (last_issued t s) w.mark w.path) ∷ [])
     again_goes controlled after =
         let control = here_control controlled in
-        let c = sound.authorized.controlled control in
-        let f = sound.fronts control in
         let x = take_made (suc z) from number (msg.Time time u) ((0, msg.Auth u (last_issued t s) w.mark w.path) ∷ []) lines in
-        let e = way_track_end line t s l sound c f in
+        let e = way_place_end line t s l sound control in
         calm_adds line t s x l sound after record {
           refused = λ y. and-false (nat_eq (suc z) y);
           ends = λ k h. end_one line (first_entry t s) t k 0 (last_issued t s) w.mark u w.path (longest_end line t s) (omega arith);
@@ -251,18 +246,18 @@ module _ (line : Line) (t z from number : ℕ) (s : Story) (lines : List Outcome
         }
 
     mine_time : Goes (msg.Time time u) (time_issued t)
-    mine_time = by_test (controls (suc z) t s && nat_lt (counted t s) (last_issued t s))
+    mine_time = by_test (controls (suc z) t s && nat_lt (counted line t s) (last_issued t s))
         (λ y.
         let controlled = (both (controls (suc z) t s) _ y).0 in
         let is : time_issued t ≡ (0, msg.Auth u (last_issued t s) w.mark w.path) ∷ [] =
-        ap (λ (v : Option PlainWay). (zone_time (controls (suc z) t s) (counted t s) (last_issued t s) u v).issued) (here_way controlled) ∙ rw y refl in
+        ap (λ (v : Option PlainWay). (zone_time (controls (suc z) t s) (counted line t s) (last_issued t s) u v).issued) (here_way controlled) ∙ rw y refl in
         subst (λ (issued : List (ℕ × Msg)). Goes (msg.Time time u) issued) (sym is) (again_goes controlled))
-        (λ n. silent_goes (msg.Time time u) (time_issued t) (quiet_time (controls (suc z) t s) (counted t s) (last_issued t s) u (way line (suc z) t s) n) (λ point. refl))
+        (λ n. silent_goes (msg.Time time u) (time_issued t) (quiet_time (controls (suc z) t s) (counted line t s) (last_issued t s) u (way line (suc z) t s) n) (λ point. refl))
 
     time_goes : Goes (msg.Time time u) (time_issued u.0)
     time_goes = by_test (nat_eq u.0 t)
         (λ its. subst (λ (n : ℕ). Goes (msg.Time time u) (time_issued n)) (sym (eqb-true u.0 t its)) mine_time)
-        (λ other. none_goes (msg.Time time u) (time_issued u.0) (other_time t (controls (suc z) u.0 s) (counted u.0 s) (last_issued u.0 s) u (way line (suc z) u.0 s) other) (λ point. refl))
+        (λ other. none_goes (msg.Time time u) (time_issued u.0) (other_time t (controls (suc z) u.0 s) (counted line u.0 s) (last_issued u.0 s) u (way line (suc z) u.0 s) other) (λ point. refl))
 
   zone_goes : (m : Msg) → RequestTrue line t s m → Goes m (zone_takes line (suc z) s m).issued
   zone_goes (msg.EntryAsk u time long error speed equipped step) request = entry_goes u time long error speed equipped step request
@@ -314,13 +309,13 @@ event_adds line t s (Take to from number) l a sound after =
 event_adds line t s (Deliver to) l a sound after = world_adds line t s (Deliver to) nothing refl l sound after
 
 -- an ask that no bar refuses reaches exactly the first obstacle
-ask_reaches : (line : Line) (s : Story) (z t now_ to : ℕ) (asked : List DirSeg) (way_ : PlainWay) → way line z t s ≡ Some way_ → (controls z t s && nat_lt 0 (counted t s)) ≡ true
+ask_reaches : (line : Line) (s : Story) (z t now_ to : ℕ) (asked : List DirSeg) (way_ : PlainWay) → way line z t s ≡ Some way_ → (controls z t s && nat_lt 0 (counted line t s)) ≡ true
     → continues line way_.path.steps.items asked ≡ true → silent_by line (report_time line z t s) now_ ≡ false
     → IsReach (seg_len line) (ask_of (seg_len line) way_.path asked to (barring line z t s)) (limit line z t s now_ asked to)
 ask_reaches line s z t now_ to asked way_ is ready joins quiet =
     let bars = barring line z t s in
-    let e : limit line z t s now_ asked to ≡ reach_from line (controls z t s && nat_lt 0 (counted t s)) (silent_by line (report_time line z t s) now_) (Some way_.path) asked to bars =
-    ap (λ (v : Option PlainWay). reach_from line (controls z t s && nat_lt 0 (counted t s)) (silent_by line (report_time line z t s) now_) (path_of v) asked to bars) is in
+    let e : limit line z t s now_ asked to ≡ reach_from line (controls z t s && nat_lt 0 (counted line t s)) (silent_by line (report_time line z t s) now_) (Some way_.path) asked to bars =
+    ap (λ (v : Option PlainWay). reach_from line (controls z t s && nat_lt 0 (counted line t s)) (silent_by line (report_time line z t s) now_) (path_of v) asked to bars) is in
     subst (λ (r : Reach). IsReach (seg_len line) (ask_of (seg_len line) way_.path asked to bars) r) (sym e)
     (rw (ready, joins, quiet) (reach_is (seg_len line) (ask_of (seg_len line) way_.path asked to bars)))
 

@@ -15,8 +15,8 @@ use Rattle.definitions.specs.Track.{Line, seg_len}
 use Rattle.definitions.specs.Ways.{PlainWay, way_between}
 use Rattle.definitions.specs.Story.{Entry as Made, Story}
 use Rattle.definitions.specs.World.{entered, is_auth}
-use Rattle.definitions.specs.Control.{grants_entry, controls, knows, knows_most, now_with, counted, last_issued}
-use Rattle.definitions.specs.Longest.{longest_end, longest_route}
+use Rattle.definitions.specs.Control.{grants_entry, controls, knows, knows_most, now_with, last_issued}
+use Rattle.definitions.specs.Longest.{counted, longest_end, longest_route}
 use Rattle.definitions.specs.Fronts.{report_time, silent_by, is_used, possible_front, least_rear}
 use Rattle.definitions.specs.Authority.{way, holder_of}
 use Rattle.definitions.specs.Limit.{Reach, asked_way, continues, path_of, reach_from, barring, limit}
@@ -132,14 +132,14 @@ module _ (line : Line) (s : Story) (one : IsLineOfOneZone line) (e : Event) (fro
       let q = msg.Ask u time steps to in
       let x = step q in
       let len = seg_len line in
-      let ready = controls z u.0 s && nat_lt 0 (counted u.0 s) in
+      let ready = controls z u.0 s && nat_lt 0 (counted line u.0 s) in
       let silent = silent_by line (report_time line z u.0 s) (now_with z s q) in
       let held = barring line z u.0 s in
       ask_cases (Issues line u.0 s x) len z u (last_issued u.0 s) (way line z u.0 s) steps.items (limit line z u.0 s (now_with z s q) steps.items to)
       (λ h. quiet (no_issue u.0 x.issued h))
       (λ v is far h. by_test ready
       (λ go.
-      let r = both (controls z u.0 s) (nat_lt 0 (counted u.0 s)) go in
+      let r = both (controls z u.0 s) (nat_lt 0 (counted line u.0 s)) go in
       let c = r.0 in
       let f = fronts c in
       let w = way_facts line u.0 s one k c f in
@@ -158,10 +158,10 @@ module _ (line : Line) (s : Story) (one : IsLineOfOneZone line) (e : Event) (fro
       issues (granted line u.0 s one m k c f x steps.items v same u d go_on.1.0 above room fits h own (ungranted_ask time steps to) on))
       (λ n. absurd (let c : true ≡ false = sym (no_reach line ready silent (path_of (way line z u.0 s)) steps.items to held n) ∙ far in cc)))
     where
-      come_on : nat_lt 0 (counted u.0 s) ≡ true → entered u.0 s ≡ true
+      come_on : nat_lt 0 (counted line u.0 s) ≡ true → entered u.0 s ≡ true
       come_on h = by_test (entered u.0 s)
           (λ y. y)
-          (λ n. absurd (let z : 0 < counted u.0 s = grind (arith, nat_tests) in let none = k.uncounted n in omega (arith, z, none)))
+          (λ n. absurd (let z : 0 < counted line u.0 s = grind (arith, nat_tests) in let none = k.uncounted n in omega (arith, z, none)))
 
   ungranted_time : (time : ℕ) → grants_entry (zone_id line) u.0 (made e (zone_id line) (Some (from, msg.Time time u)) (zone_step line (zone_id line) s (msg.Time time u))) ≡ false
   ungranted_time time = grind arith
@@ -169,7 +169,7 @@ module _ (line : Line) (s : Story) (one : IsLineOfOneZone line) (e : Event) (fro
   pub time_issues : (time : ℕ) → Issues line u.0 s (made e (zone_id line) (Some (from, msg.Time time u)) (zone_step line (zone_id line) s (msg.Time time u)))
   time_issues time =
       let x = step (msg.Time time u) in
-      time_cases (Issues line u.0 s x) (controls z u.0 s) (counted u.0 s) (last_issued u.0 s) u (way line z u.0 s)
+      time_cases (Issues line u.0 s x) (controls z u.0 s) (counted line u.0 s) (last_issued u.0 s) u (way line z u.0 s)
       (λ h. quiet (no_issue u.0 x.issued h))
       (λ v is c h.
       let f = fronts c in

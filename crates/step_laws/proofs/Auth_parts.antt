@@ -12,7 +12,9 @@ use Rattle.definitions.specs.Rules.{is_line}
 use Rattle.definitions.specs.Premises.{built, enters_rightly}
 use Rattle.definitions.specs.Story.{Entry as Made, Story, ever, world_took}
 use Rattle.definitions.specs.World.{Facts, facts_or, facts_in, facts_of, is_declared, long_of, enters, entered, HeldPath, is_auth, taken_number, taken_path, taken_entry, entry_authority, last_number}
-use Rattle.definitions.specs.Control.{grants_entry, controls, counted, last_issued}
+use Rattle.definitions.specs.Control.{grants_entry, controls, last_issued}
+use Rattle.definitions.specs.Fold.{account}
+use Rattle.definitions.specs.Longest.{counted}
 use Rattle.definitions.specs.Fronts.{least_rear}
 use Rattle.plain_state.specs.Plain.{zone_id}
 use Rattle.motion_laws.proofs.Motion.{place}
@@ -21,13 +23,14 @@ use Rattle.motion_laws.proofs.Admitted.{Admitted}
 use Rattle.motion_laws.proofs.Stays.{long_stays}
 use Rattle.motion_laws.proofs.Notions.{both, told_stays, told_now, ever_same, entered_same}
 use Rattle.motion_laws.proofs.Moves.{enter_once}
-use Rattle.sound_laws.proofs.Sound.{AuthIs, AuthTrue, FrontsAre, Controlled, EntryHeld, LimitIs, Authorized}
+use Rattle.sound_laws.proofs.Sound.{AuthorityIs, AuthIs, AuthTrue, FrontsAre, SomeIs, Controlled, EntryHeld, LimitIs, Authorized}
 use Rattle.authority_laws.proofs.Auth_places.{off_before, authority_stays, first_is_stays}
 use Rattle.authority_laws.proofs.Most_of.{last_quiet, last_grows}
+use Rattle.authority_laws.proofs.Unshrunk.{counted_unanswered}
 use Rattle.authority_laws.proofs.Auth_new.{NewAuth, never, numbered_controlled}
-use Rattle.authority_laws.proofs.Auth_next.{new_is, control_new}
-use Rattle.authority_laws.proofs.Auth_quiet.{AuthsStay, quiet_stay, new_stay, auths_stay, none_true, control_quiet}
-use Rattle.authority_laws.proofs.Auth_again.{facts_same}
+use Rattle.authority_laws.proofs.Auth_next.{new_top, reads_new, new_is, control_new}
+use Rattle.authority_laws.proofs.Auth_quiet.{unshrunk_quiet, unread_quiet, AuthsStay, reads_still, quiet_stay, new_stay, auths_stay, none_true, control_quiet}
+use Rattle.front_laws.proofs.Front_moves.{known_same}
 use Rattle.step_laws.proofs.Auth_issues.{Issues, quiet, issues}
 use Rattle.step_laws.proofs.Auth_taken.{TakenIs, AnswerIs, quiet_grants}
 use Rattle.step_laws.proofs.Auth_limit.{limit_comes, limit_goes}
@@ -69,25 +72,10 @@ long_next line t s x b k h = by_facts (facts_of t s) refl
 
 -- What is counted.
 
-module _ (line : Line) (t : ℕ) (s : Story) (x : Made) (k : Authorized line t s) (answer : AnswerIs t s x.took) where
-  pub counted_next : counted t (x ∷ s) ≤ last_issued t s
-  unfolding counted
-  counted_next =
-      let a = k.counted_most in
-      let b = answer.known in
-      by_test (controls x.actor t s)
-      (λ y. rw y (omega (arith, a, b)))
-      (λ n. rw n (omega (arith, a)))
-
-  pub uncounted_next : entered t (x ∷ s) ≡ false → counted t (x ∷ s) ≡ 0
-  unfolding counted
-  uncounted_next off =
-      let before = off_before t x s off in
-      let a = k.uncounted before in
-      let b = answer.on before in
-      by_test (controls x.actor t s)
-      (λ y. rw y (omega (arith, a, b)))
-      (λ n. rw n (omega (arith, a)))
+pub uncounted_next : (line : Line) (t : ℕ) (s : Story) (x : Made) → Authorized line t s → AnswerIs t s x.took → entered t (x ∷ s) ≡ false → counted line t (x ∷ s) ≡ 0
+uncounted_next line t s x k answer off =
+    let before = off_before t x s off in
+    counted_unanswered line t x s k.unshrunk (answer before) ∙ k.uncounted before
 
 -- Who controls.
 
@@ -98,16 +86,31 @@ alone_next line t s x k granted y h = by_test (grants_entry y t x)
     (λ n. k.zone_alone y (sym (ever_same (grants_entry y t) x s n) ∙ h))
 
 module _ (line : Line) (t : ℕ) (s : Story) (x : Made) (valid : is_line line ≡ true) (k : Authorized line t s) (fronts : controls (zone_id line) t s ≡ true → FrontsAre line t s)
-    (moved : is_declared t s ≡ true → place t s ≤ place t (x ∷ s)) (counts : counted t (x ∷ s) ≤ last_issued t s) where
+    (moved : is_declared t s ≡ true → place t s ≤ place t (x ∷ s)) where
   pub unknown_next : Issues line t s x → controls (zone_id line) t (x ∷ s) ≡ false → last_issued t (x ∷ s) ≡ 0
   unknown_next (issues n) h = absurd (let c : true ≡ false = sym n.controlled ∙ h in cc)
   unknown_next (quiet q) h =
       let none = k.unknown (sym (ever_same (grants_entry (zone_id line) t) x s (quiet_grants (zone_id line) t x q)) ∙ h) in
       last_quiet t x s q ∙ none
 
+  -- what is read of its numbers
+  pub unshrunk_next : Issues line t s x → (account line t (x ∷ s)).shrink ≡ 0
+  unshrunk_next (quiet q) = unshrunk_quiet line t s x k q
+  unshrunk_next (issues n) = (new_top line t s x valid k moved n).unshrunk
+
+  pub unread_next : Issues line t s x → controls (zone_id line) t (x ∷ s) ≡ false → (i : ℕ) → (account line t (x ∷ s)).reads i ≡ None
+  unread_next (issues n) h i = absurd (let c : true ≡ false = sym n.controlled ∙ h in cc)
+  unread_next (quiet q) h i = unread_quiet line t s x k q (sym (ever_same (grants_entry (zone_id line) t) x s (quiet_grants (zone_id line) t x q)) ∙ h) i
+
+  pub reads_next : Issues line t s x → (i : ℕ) → SomeIs (AuthorityIs line t (x ∷ s)) ((account line t (x ∷ s)).reads i)
+  reads_next (issues n) i = reads_new line t s x valid k moved n i
+  reads_next (quiet q) i = by_test (controls (zone_id line) t s)
+      (λ c. reads_still line t s x valid k moved c q i)
+      (λ n. subst (SomeIs (AuthorityIs line t (x ∷ s))) (sym (unread_quiet line t s x k q n i)) tt)
+
   pub stay_next : controls (zone_id line) t s ≡ true → Issues line t s x → AuthsStay line t s x
-  stay_next c (quiet q) = quiet_stay line t s x valid k moved c q counts
-  stay_next c (issues n) = new_stay line t s x valid k moved n counts
+  stay_next c (quiet q) = quiet_stay line t s x valid k moved c q
+  stay_next c (issues n) = new_stay line t s x valid k moved n
 
   granted_once : controls (zone_id line) t s ≡ true → Issues line t s x → grants_entry (zone_id line) t x ≡ false
   granted_once c (quiet q) = quiet_grants (zone_id line) t x q
@@ -116,14 +119,14 @@ module _ (line : Line) (t : ℕ) (s : Story) (x : Made) (valid : is_line line �
   pub rear_next : Issues line t s x → controls (zone_id line) t s ≡ true → least_rear line (zone_id line) t s ≤ least_rear line (zone_id line) t (x ∷ s)
   rear_next i c =
       let g = granted_once c i in
-      rear_grows line t s x (fronts c) g (facts_same (zone_id line) t x s g) (stay_next c i).ends
+      rear_grows line t s x (fronts c) g (known_same (zone_id line) t x s g) (stay_next c i).ends
 
   pub controlled_next : Issues line t s x → controls (zone_id line) t (x ∷ s) ≡ true → Controlled line t (x ∷ s)
-  controlled_next (issues n) h = control_new line t s x valid k moved n counts (rear_next (issues n))
+  controlled_next (issues n) h = control_new line t s x valid k moved n (rear_next (issues n))
   controlled_next (quiet q) h =
       let g = quiet_grants (zone_id line) t x q in
       let c = sym (ever_same (grants_entry (zone_id line) t) x s g) ∙ h in
-      control_quiet line t s x valid k moved c q counts (facts_same (zone_id line) t x s g) (rear_next (quiet q) c)
+      control_quiet line t s x valid k moved c q (known_same (zone_id line) t x s g) (rear_next (quiet q) c)
 
   -- the authorities that were issued before, and now
   auths_before : Issues line t s x → AllIssued (AuthTrue line t (x ∷ s)) s
@@ -137,7 +140,7 @@ module _ (line : Line) (t : ℕ) (s : Story) (x : Made) (valid : is_line line �
 
   auths_now : Issues line t s x → AllIn (AuthTrue line t (x ∷ s)) x.issued
   auths_now (quiet q) = in_all_weaker (λ m. is_auth t m ≡ false) (AuthTrue line t (x ∷ s)) (none_true line t (x ∷ s)) x.issued q
-  auths_now (issues n) = one_true n (new_is line t s x valid k moved n counts)
+  auths_now (issues n) = one_true n (new_is line t s x valid k moved n)
 
   pub auths_next : Issues line t s x → AllIssued (AuthTrue line t (x ∷ s)) (x ∷ s)
   unfolding AllIssued

@@ -16,7 +16,8 @@ use Rattle.definitions.specs.Track.{Line, seg_len, zone_of, has_zone, begins_at_
 use Rattle.definitions.specs.Premises.{on_line, same_portal}
 use Rattle.definitions.specs.Story.{Entry as Made, Story}
 use Rattle.definitions.specs.World.{Facts, clock, facts_of, is_declared, entry_in, first_entry, enters, entered, HeldPath, entry_authority, auth_number, last_number}
-use Rattle.definitions.specs.Control.{controls, knows, knows_most, now_with, counted, last_issued}
+use Rattle.definitions.specs.Control.{controls, knows, knows_most, now_with, last_issued}
+use Rattle.definitions.specs.Longest.{counted}
 use Rattle.definitions.specs.Authority.{way, holder_of}
 use Rattle.definitions.specs.Limit.{limit}
 use Rattle.definitions.specs.Steps.{sender_of, entering, requesting, taking_auth, world_takes, zone_takes, taking, message, effects}
@@ -147,7 +148,7 @@ module _ (line : Line) (t : ℕ) (s : Story) (k : Authorized line t s) where
       (λ h. none_asked x issued h) (λ v is far h. auth_asked x _ v.mark u _ issued h)
   zone_requests z (msg.Time time u) x =
       let issued = (zone_takes line z s (msg.Time time u)).issued in
-      time_cases (AllIn (RequestTrue line t (x ∷ s)) issued) (controls z u.0 s) (counted u.0 s) (last_issued u.0 s) u (way line z u.0 s)
+      time_cases (AllIn (RequestTrue line t (x ∷ s)) issued) (controls z u.0 s) (counted line u.0 s) (last_issued u.0 s) u (way line z u.0 s)
       (λ h. none_asked x issued h) (λ v is c h. auth_asked x _ v.mark u v.path issued h)
   zone_requests z (msg.Report u time mark offset integrity) x = none_asked x _ (report_none line z s u (msg.Report u time mark offset integrity))
   zone_requests z (msg.Answer u time number taken) x = tt

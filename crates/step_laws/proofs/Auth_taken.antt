@@ -1,4 +1,4 @@
--- What an event takes: an answer that counts, and an authority that the world takes.
+-- What an event takes: an answer, and an authority that the world takes.
 use Rattle.std.proofs.Common.{◌≡◌, ℕ, zero, suc, ◌-◌, ◌≤◌, List, [], Option, Some, None, true, false, ◌&&◌, not, refl, sym, ◌∙◌, subst, arith}
 use Rattle.std.proofs.lemmas.Bool.{eqb-true}
 use Rattle.std.specs.Prelude.{nat_eq}
@@ -11,7 +11,7 @@ use Rattle.definitions.specs.declared.message.Msg.TheVariants as msg
 use Rattle.definitions.specs.Track.{Line, is_actor}
 use Rattle.definitions.specs.Story.{Entry as Made, Story, by_world, world_took}
 use Rattle.definitions.specs.World.{entered, HeldPath, Authority, is_auth, auth_number, taken_number, taken_path}
-use Rattle.definitions.specs.Control.{asks_entry, grants_entry, answer_number, last_issued}
+use Rattle.definitions.specs.Control.{asks_entry, grants_entry, last_issued}
 use Rattle.definitions.specs.Steps.{taking, message, effects}
 use Rattle.definitions.specs.Safe.{IsLineOfOneZone}
 use Rattle.plain_state.specs.Plain.{zone_id}
@@ -19,6 +19,7 @@ use Rattle.motion_laws.proofs.Issued.{in_false_all, issued_all}
 use Rattle.motion_laws.proofs.Notions.{both, number_most}
 use Rattle.motion_laws.proofs.Admitted.{Admitted}
 use Rattle.sound_laws.proofs.Sound.{RequestTrue, AuthIs, AuthTrue, Authorized}
+use Rattle.authority_laws.proofs.Unshrunk.{answers}
 use Rattle.step_laws.proofs.Auth_issues.{NoAuth}
 use Rattle.step_laws.proofs.Auth_takes.{taker_is, world_takes_none}
 
@@ -28,10 +29,9 @@ pub record TakenIs (line : Line) (t : ℕ) (s : Story) (took : Option (ℕ × Ms
   pub some : 1 ≤ taken_number t took → (h : HeldPath) × (taken_path t took ≡ Some h)
   pub is : (h : HeldPath) → taken_path t took ≡ Some h → AuthIs line t s (taken_number t took) h.authority
 
--- an answer that counts, of an issued number, is of a train that came on
-pub record AnswerIs (t : ℕ) (s : Story) (took : Option (ℕ × Msg)) : Type 0 where
-  pub known : answer_number t took ≤ last_issued t s
-  pub on : entered t s ≡ false → answer_number t took ≡ 0
+-- an answer is of a train that came on
+abbrev pub AnswerIs : ℕ → Story → Option (ℕ × Msg) → Type 0
+AnswerIs t s took = entered t s ≡ false → answers t took ≡ false
 
 pub record TookIs (line : Line) (t : ℕ) (s : Story) (x : Made) : Type 0 where
   pub world : TakenIs line t s (world_took x)
@@ -41,14 +41,11 @@ pub record TookIs (line : Line) (t : ℕ) (s : Story) (x : Made) : Type 0 where
 no_taken : (line : Line) (t : ℕ) (s : Story) → TakenIs line t s None
 no_taken line t s = record { known = omega arith; some = λ h. absurd (omega (arith, h)); is = λ h e. absurd (let c : None ≡ Some h = e in cc) }
 
-no_answer : (t : ℕ) (s : Story) → AnswerIs t s None
-no_answer t s = record { known = omega arith; on = λ h. refl }
-
 -- an event that takes nothing
 pub took_none : (line : Line) (t : ℕ) (s : Story) (e : Event) (a : ℕ) (issued : List (ℕ × Msg)) (lines : _) → TookIs line t s (record { event = e; actor = a; took = None; issued = issued; lines = lines })
 took_none line t s e a issued lines = record {
   world = by_actor a;
-  answer = no_answer t s;
+  answer = λ off. refl;
   zone = λ y h. absurd (let n : false ≡ true = sym (none y) ∙ h in cc);
 }
   where
@@ -90,14 +87,14 @@ auth_taken line t s from (msg.Ask u time steps to) most is = record { known = om
 auth_taken line t s from (msg.Answer u time number taken) most is = record { known = omega arith; some = λ h. absurd (omega (arith, h)); is = λ h e. absurd (let c : None ≡ Some h = e in cc) }
 
 answer_taken : (line : Line) (t : ℕ) (s : Story) (from : ℕ) (m : Msg) → RequestTrue line t s m → AnswerIs t s (Some (from, m))
-answer_taken line t s from (msg.Answer u time number taken) is = by_test (nat_eq u.0 t)
-    (λ y. let a = (is y).0 in record { known = rw y a; on = λ off. absurd (let c : true ≡ false = sym (is y).1 ∙ off in cc) })
-    (λ n. record { known = rw n (omega arith); on = λ off. rw n refl })
-answer_taken line t s from (msg.Report u time mark offset integrity) is = record { known = omega arith; on = λ h. refl }
-answer_taken line t s from (msg.Time time u) is = record { known = omega arith; on = λ h. refl }
-answer_taken line t s from (msg.EntryAsk u time long error speed equipped step) is = record { known = omega arith; on = λ h. refl }
-answer_taken line t s from (msg.Ask u time steps to) is = record { known = omega arith; on = λ h. refl }
-answer_taken line t s from (msg.Auth u number mark path) is = record { known = omega arith; on = λ h. refl }
+answer_taken line t s from (msg.Answer u time number taken) is = λ off. by_test (nat_eq u.0 t)
+    (λ y. absurd (let c : true ≡ false = sym (is y).1 ∙ off in cc))
+    (λ n. n)
+answer_taken line t s from (msg.Report u time mark offset integrity) is = λ off. refl
+answer_taken line t s from (msg.Time time u) is = λ off. refl
+answer_taken line t s from (msg.EntryAsk u time long error speed equipped step) is = λ off. refl
+answer_taken line t s from (msg.Ask u time steps to) is = λ off. refl
+answer_taken line t s from (msg.Auth u number mark path) is = λ off. refl
 
 -- who grants entry acts, and issues an authority
 pub granter : (y t : ℕ) (x : Made) → grants_entry y t x ≡ true → (nat_eq x.actor y ≡ true) × (list_any (λ (i : ℕ × Msg). is_auth t i.1) x.issued ≡ true)

@@ -13,7 +13,8 @@ use Rattle.definitions.specs.declared.message.Msg.TheVariants as msg
 use Rattle.definitions.specs.Track.{Line, seg_len, zone_of, is_actor}
 use Rattle.definitions.specs.Story.{Entry as Made, Story}
 use Rattle.definitions.specs.World.{Facts, clock, facts_of, entry_authority, entered, last_number}
-use Rattle.definitions.specs.Control.{controls, knows, knows_most, now_with, counted, last_issued}
+use Rattle.definitions.specs.Control.{controls, knows, knows_most, now_with, last_issued}
+use Rattle.definitions.specs.Longest.{counted}
 use Rattle.definitions.specs.Authority.{way, holder_of}
 use Rattle.definitions.specs.Limit.{limit}
 use Rattle.definitions.specs.Steps.{sender_of, entering, requesting, taking_auth, world_takes, zone_step, made, taking, message, effects}
@@ -57,7 +58,7 @@ module _ (line : Line) (s : Story) (one : IsLineOfOneZone line) (sound : (t : 鈩
   zone_issues (msg.Time time u) asked =
       let x = step (msg.Time time u) in
       its_own u x (time_issues line s one e from u (sound u.0).motion (sound u.0).authorized (sound u.0).fronts time)
-      (位 other. time_cases (NoAuth t x.issued) (controls z u.0 s) (counted u.0 s) (last_issued u.0 s) u (way line z u.0 s)
+      (位 other. time_cases (NoAuth t x.issued) (controls z u.0 s) (counted line u.0 s) (last_issued u.0 s) u (way line z u.0 s)
       (位 h. no_issue t x.issued h)
       (位 v is c h. other_issue t _ v.mark u v.path x.issued other h))
   zone_issues (msg.Report u time mark offset integrity) asked =

@@ -4,8 +4,9 @@ use Rattle.definitions.specs.declared.event.Event.{Event}
 use Rattle.definitions.specs.Track.{Line}
 use Rattle.definitions.specs.Story.{Entry as Made, Story, ever, first_told, greatest_issued}
 use Rattle.definitions.specs.World.{is_declared, last_number}
-use Rattle.definitions.specs.Control.{controls, counted, last_issued}
-use Rattle.definitions.specs.Longest.{longest_end}
+use Rattle.definitions.specs.Control.{controls, last_issued}
+use Rattle.definitions.specs.Fold.{account}
+use Rattle.definitions.specs.Longest.{counted, longest_end}
 use Rattle.definitions.specs.Fronts.{least_rear}
 use Rattle.definitions.specs.Steps.{effects}
 use Rattle.definitions.specs.Safe.{IsLineOfOneZone}
@@ -16,21 +17,25 @@ use Rattle.motion_laws.proofs.Admitted.{Admitted}
 use Rattle.motion_laws.proofs.Moves.{effect_event}
 use Rattle.sound_laws.proofs.Sound.{RequestTrue, Authorized, Sound}
 use Rattle.authority_laws.proofs.Most_of.{last_grows}
+use Rattle.authority_laws.proofs.Auth_new.{counted_next}
 use Rattle.step_laws.proofs.Auth_requests.{requests_stay, effect_requests}
 use Rattle.step_laws.proofs.Auth_issues.{Issues}
 use Rattle.step_laws.proofs.Auth_takes.{effect_issues}
 use Rattle.step_laws.proofs.Auth_taken.{TookIs, effect_took_is}
-use Rattle.step_laws.proofs.Auth_parts.{long_next, counted_next, uncounted_next, alone_next, unknown_next, stay_next, rear_next, controlled_next, auths_next, entry_next, came_next, limit_after, last_next}
+use Rattle.step_laws.proofs.Auth_parts.{long_next, uncounted_next, alone_next, unknown_next, unshrunk_next, unread_next, reads_next, stay_next, rear_next, controlled_next, auths_next, entry_next, came_next, limit_after, last_next}
 
 pub authorized_start : (line : Line) (t : ℕ) → Authorized line t []
-unfolding first_told ever greatest_issued counted last_number AllIssued
+unfolding first_told ever greatest_issued account last_number AllIssued
 authorized_start line t = record {
   long_some = λ h. absurd cc;
   counted_most = omega arith;
   last_most = omega arith;
   uncounted = λ h. refl;
+  unshrunk = refl;
+  reads = λ n. tt;
   zone_alone = λ y h. absurd cc;
   unknown = λ h. refl;
+  unread = λ h n. refl;
   controlled = λ h. absurd cc;
   auths = tt;
   requests = tt;
@@ -58,9 +63,6 @@ module _ (line : Line) (s : Story) (e : Event) (one : IsLineOfOneZone line) (a :
   moved : is_declared t s ≡ true → place t s ≤ place t (effects line s e ∷ s)
   moved d = place_grows line t s e a (sound t).motion d
 
-  counts : counted t (effects line s e ∷ s) ≤ last_issued t s
-  counts = counted_next line t s x k took.answer
-
   requests_next : AllIssued (RequestTrue line t (effects line s e ∷ s)) (effects line s e ∷ s)
   unfolding AllIssued
   requests_next = (effect_requests line t s k e a, requests_stay line t x s k.requests)
@@ -69,26 +71,29 @@ module _ (line : Line) (s : Story) (e : Event) (one : IsLineOfOneZone line) (a :
   authorized_next = record {
     long_some = long_next line t s x acts.form k.long_some;
     counted_most = counted_grows;
-    last_most = last_next line t s x one.valid k (sound t).fronts moved counts acts took.world;
+    unshrunk = unshrunk_next line t s x one.valid k (sound t).fronts moved issue;
+    reads = reads_next line t s x one.valid k (sound t).fronts moved issue;
+    unread = unread_next line t s x one.valid k (sound t).fronts moved issue;
+    last_most = last_next line t s x one.valid k (sound t).fronts moved acts took.world;
     uncounted = uncounted_next line t s x k took.answer;
     zone_alone = alone_next line t s x k took.zone;
-    unknown = unknown_next line t s x one.valid k (sound t).fronts moved counts issue;
-    controlled = controlled_next line t s x one.valid k (sound t).fronts moved counts issue;
-    auths = auths_next line t s x one.valid k (sound t).fronts moved counts issue;
+    unknown = unknown_next line t s x one.valid k (sound t).fronts moved issue;
+    controlled = controlled_next line t s x one.valid k (sound t).fronts moved issue;
+    auths = auths_next line t s x one.valid k (sound t).fronts moved issue;
     requests = requests_next;
-    entry = entry_next line t s x one.valid k (sound t).fronts moved counts issue took.world;
-    came_on = came_next line t s x one.valid k (sound t).fronts moved counts acts;
-    limit = limit_after line t s x one.valid k (sound t).fronts moved counts acts issue took.world;
+    entry = entry_next line t s x one.valid k (sound t).fronts moved issue took.world;
+    came_on = came_next line t s x one.valid k (sound t).fronts moved acts;
+    limit = limit_after line t s x one.valid k (sound t).fronts moved acts issue took.world;
   }
     where
-      counted_grows : counted t (effects line s e ∷ s) ≤ last_issued t (effects line s e ∷ s)
-      counted_grows = let c = counts in let g = last_grows t x s in omega (arith, c, g)
+      counted_grows : counted line t (effects line s e ∷ s) ≤ last_issued t (effects line s e ∷ s)
+      counted_grows = let c = counted_next line t s k x in let g = last_grows t x s in omega (arith, c, g)
 
   pub ends_next : controls (zone_id line) t s ≡ true → longest_end line t s ≤ longest_end line t (effects line s e ∷ s)
-  ends_next c = (stay_next line t s x one.valid k (sound t).fronts moved counts c issue).ends
+  ends_next c = (stay_next line t s x one.valid k (sound t).fronts moved c issue).ends
 
   pub rears_next : controls (zone_id line) t s ≡ true → least_rear line (zone_id line) t s ≤ least_rear line (zone_id line) t (effects line s e ∷ s)
-  rears_next c = rear_next line t s x one.valid k (sound t).fronts moved counts issue c
+  rears_next c = rear_next line t s x one.valid k (sound t).fronts moved issue c
 
 pub authorized_step : (line : Line) (s : Story) (e : Event) → IsLineOfOneZone line → Admitted line s e → Timed s → ((t : ℕ) → Sound line t s) → (t : ℕ) → Authorized line t (effects line s e ∷ s)
 authorized_step line s e one a timed sound t = authorized_next line s e one a timed sound t

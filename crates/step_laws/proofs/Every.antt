@@ -1,10 +1,15 @@
 -- Sound is kept by every event.
-use Rattle.std.proofs.Common.{◌≡◌, ℕ, List, [], ◌∷◌, true}
+use Rattle.std.proofs.Common.{◌≡◌, ℕ, List, [], ◌∷◌, true, ◌&&◌, arith}
 use Rattle.definitions.specs.declared.event.Event.{Event}
 use Rattle.definitions.specs.Track.{Line}
 use Rattle.definitions.specs.Safe.{IsLineOfOneZone, Kept}
 use Rattle.definitions.specs.Story.{Story}
 use Rattle.definitions.specs.Steps.{effects, story_of}
+use Rattle.std.specs.Prelude.{nat_eq}
+use Rattle.definitions.specs.Fold.{account}
+use Rattle.plain_state.specs.Plain.{zone_id}
+use Rattle.authority_laws.proofs.Unshrunk.{none_taken}
+use Rattle.front_laws.proofs.Front_step.{takes_some}
 use Rattle.motion_laws.proofs.Admitted.{Admitted, admitted}
 use Rattle.motion_laws.proofs.Motion.{Timed, motion_start, motion_step}
 use Rattle.motion_laws.proofs.Times.{timed_step, timed_story}
@@ -29,8 +34,12 @@ sound_step line s e l a timed k t =
       motion = motion;
       authorized = authorized;
       reports = reports_step line s e l a timed k t;
-      fronts = fronts_step line s e l a timed (timed_step line s e a timed) k t motion authorized (ends_grow line s e l a timed k t);
+      fronts = fronts_step line s e l a timed (timed_step line s e a timed) k t motion authorized
+          (λ c n. ends_grow line s e l a timed k t c) (λ c y. absurd (shrinks y));
     }
+  where
+    shrinks : (nat_eq (effects line s e).actor (zone_id line) && takes_some t (account line t s) (effects line s e).took) ≡ true → ⊥
+    shrinks y = let n = none_taken t (account line t s) (effects line s e).took (k t).authorized.unshrunk in grind arith
 
 pub sound_story : (line : Line) (t : ℕ) (es : List Event) → IsLineOfOneZone line → Kept line es → Sound line t (story_of line es)
 unfolding story_of Kept

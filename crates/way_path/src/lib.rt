@@ -9,6 +9,3 @@ mod points;
 pub mod way;
 
 pub use way::{Way, WayFault};
-
-#[cfg(test)]
-mod tests;

@@ -20,10 +20,10 @@ use track_points::{DirSeg, Path, PointSet, ZoneId};
 #[derive(Clone, Copy, PartialEq, Eq, Debug, Error)]
 pub enum WayFault {
     /// The step of this index, from 0, does not follow the one before it. It is the first such step.
-    #[error("step {0} does not follow the one before it")]
+    #[error("a step does not follow the one before it")]
     NotJoined(u8),
     /// An earlier step has the segment of the step of this index, from 0. It is the first such step.
-    #[error("step {0} is on a segment of an earlier step")]
+    #[error("a step is on a segment of an earlier step")]
     Repeated(u8),
     /// There is no step, an offset lies outside its segment, or the path does not begin before it ends.
     #[error("no steps, or offsets out of their range")]

@@ -5,6 +5,3 @@ mod trains;
 pub mod world;
 
 pub use world::{Premise, World};
-
-#[cfg(test)]
-mod tests;

@@ -12,7 +12,7 @@ ghost use Rattle.world_sim.specs.World.{put, is_train, moved_to, Reaches, HeadIs
 
 use line_map::{After, Line};
 use plain_state::{EntryAuthority, Head, WorldTrain};
-use track_points::{Dir, DirSeg, Path, TrainId};
+use track_points::{DirSeg, Path, TrainId, same_dir};
 use way_path::Way;
 use way_path::on_steps::{length_of, total};
 
@@ -55,17 +55,7 @@ pub fn replace(trains: &mut Vec<WorldTrain>, train: TrainId, changed: WorldTrain
 pub fn same_step(a: DirSeg, b: DirSeg) -> bool
     ensures { result ≡ step_eq a b }
 {
-    a.seg.0 == b.seg.0
-        && match a.dir {
-            Dir::Up => match b.dir {
-                Dir::Up => true,
-                Dir::Down => false,
-            },
-            Dir::Down => match b.dir {
-                Dir::Up => false,
-                Dir::Down => true,
-            },
-        }
+    a.seg.0 == b.seg.0 && same_dir(a.dir, b.dir)
 }
 
 /// Whether a request for entry at a step goes to the portal of the first one.

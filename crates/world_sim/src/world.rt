@@ -31,7 +31,7 @@ use way_path::on_steps::zone_of;
 
 /// The number of the least premise that an event breaks.
 #[derive(Clone, Copy, PartialEq, Eq, Debug, Error)]
-#[error("premise {0}")]
+#[error("a premise is broken")]
 pub struct Premise(pub u8);
 
 /// Sends an answer to the zone that sent the authority, and tells it.

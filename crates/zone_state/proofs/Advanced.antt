@@ -13,8 +13,9 @@ use Rattle.definitions.specs.Limit.{Reach}
 use Rattle.definitions.specs.Steps.{Effect, zone_entry, zone_ask, enter_or_held}
 use Rattle.plain_state.specs.ZoneTrain.{ZoneTrain}
 use Rattle.plain_state.specs.Zone.{PlainZone, find_way, full, holder_plain, reach_plain, last_found, way_found, uses_mark, place_found, again_found, zone_answer, zone_heeds, zone_gives, zone_take_effect, trains_stepped, clock_after}
-use Rattle.zone_state.specs.declared.trains.Controlled.{Controlled}
-use Rattle.zone_state.specs.Zone.{plain_train, Distinct, alarms_of}
+use Rattle.zone_reach.specs.declared.train.Controlled.{Controlled}
+use Rattle.zone_reach.specs.Train.{plain_train}
+use Rattle.zone_state.specs.Zone.{Distinct, alarms_of}
 use Rattle.zone_state.proofs.Alarms.{Follows, grown_follows, after_follows}
 
 -- what a message comes to has at most one line

@@ -12,7 +12,7 @@ use Rattle.definitions.specs.Track.{Line, seg_len, silent_after}
 use Rattle.definitions.specs.Fronts.{silent_by}
 use Rattle.definitions.specs.Control.{message_time}
 use Rattle.plain_state.specs.ZoneTrain.{ZoneTrain}
-use Rattle.plain_state.specs.Zone.{find_way, change_way, placed_way, entered_or, entered_way, full, holder_plain, reach_plain, uses_mark, ways_after, grown_train, plain_alarms, is_alarmed, report_or, alarm_of, lengthened, answered_by, reported_by, fresh_train}
+use Rattle.plain_state.specs.Zone.{find_way, change_way, placed_way, entered_or, entered_way, full, holder_plain, reach_plain, uses_mark, ways_after, grown_train, plain_alarms, is_alarmed, report_or, alarm_of, lengthened, answer, reported_by, fresh_train}
 use Rattle.zone_state.specs.Zone.{Distinct, falls_silent, alarms_of}
 
 no_some : (x : ZoneTrain) → Some x ≡ None → ⊥
@@ -253,7 +253,7 @@ module _ (line : Line) (z before clock : ℕ) (old : List ZoneTrain) (d : Distin
       (λ y. rw y (changed_follows t.0 (reported_by (seg_len line) time mark offset integrity) (λ x. refl) (λ x. rw c (reported_silent line before time x.report))))
       (λ n. rw n grown_follows)
   after_follows (msg.Time time t) c = grown_follows
-  after_follows (msg.Answer t time number taken) c = changed_follows t.0 (answered_by number) (λ x. refl) (λ x. refl)
+  after_follows (msg.Answer t time number taken) c = changed_follows t.0 (answer (seg_len line) number taken) (λ x. refl) (λ x. refl)
   after_follows (msg.Auth t number mark path) c = grown_follows
 
 -- growth changes no number

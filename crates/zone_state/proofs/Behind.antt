@@ -7,7 +7,7 @@ use Rattle.track_points.specs.Points.{Lengths, total}
 use Rattle.definitions.specs.Ways.{PlainWay, first_len, steps_behind}
 use Rattle.way_path.specs.Ways.{Dropped}
 use Rattle.plain_state.specs.ZoneTrain.{ZoneTrain}
-use Rattle.plain_state.specs.Zone.{cut_at_rear}
+use Rattle.plain_state.specs.Zone.{shifted, cut_at_rear}
 
 -- where a place lies on the first of the steps behind others, those others lie behind it
 behind_split : (len : Lengths) (a b : List DirSeg) (q : ℕ) → q < first_len len b → steps_behind len (a ++ b) (total len a + q) ≡ length a
@@ -31,7 +31,7 @@ way_are new mark from to end a b c d = rw (← a, ← b, ← c, ← d) refl
 
 -- the train whose way begins at its rear
 pub cut_train : (len : Lengths) (x : ZoneTrain) (new : PlainWay) (rear mm : ℕ) → Dropped len x.way new rear mm → rear + x.train_length ≡ x.fronts.lo
-    → record x { way = new; fronts = record { lo = x.fronts.lo - mm; hi = x.fronts.hi - mm; at = x.fronts.at } } ≡ cut_at_rear len x
+    → record x { way = new; fronts = record { lo = x.fronts.lo - mm; hi = x.fronts.hi - mm; at = x.fronts.at }; pending = shifted mm x.pending } ≡ cut_at_rear len x
 cut_train len x new rear mm d r =
     let e : x.fronts.lo - x.train_length ≡ rear = omega arith in
     let n = dropped_count len x.way new rear mm d in
@@ -41,4 +41,4 @@ cut_train len x new rear mm d r =
     let k : new.end ≡ x.way.end - mm = let g = d.end in omega arith in
     let w = way_are new (x.way.mark + length d.steps) (rear - mm) x.way.path.to (x.way.end - mm) d.mark f d.to k in
     rw (e, n, t, b, ← d.dropped)
-    (ap (λ (y : PlainWay). record x { way = y; fronts = record { lo = x.fronts.lo - mm; hi = x.fronts.hi - mm; at = x.fronts.at } }) w)
+    (ap (λ (y : PlainWay). record x { way = y; fronts = record { lo = x.fronts.lo - mm; hi = x.fronts.hi - mm; at = x.fronts.at }; pending = shifted mm x.pending }) w)

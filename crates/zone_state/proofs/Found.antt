@@ -1,6 +1,7 @@
 -- A train by its index, and what holds of all trains.
-use Rattle.std.proofs.Common.{◌≡◌, ℕ, suc, zero, subst, ◌+◌, ◌<◌, ◌≤◌, Bool, true, false, List, [], ◌∷◌, length, map, take, get_or, Result, Ok, Err, Some, None, is_some, refl, sym, ap, ◌∙◌, arith, nat_eq, nat_lt, nat_le}
+use Rattle.std.proofs.Common.{◌≡◌, ℕ, suc, zero, subst, ◌+◌, ◌<◌, ◌≤◌, Bool, true, false, List, [], ◌∷◌, length, map, take, drop, ◌++◌, get_or, Result, Ok, Err, Some, None, is_some, refl, sym, ap, ◌∙◌, arith, nat_eq, nat_lt, nat_le}
 use Rattle.std.proofs.Math.ListN.{set}
+use Rattle.std.proofs.Math.Seq.{take-append_seam}
 use Rattle.std.specs.List.{list_all, position, position_or_len}
 use Rattle.std.proofs.lemmas.Bool.Decides.{nat_tests}
 use Rattle.std.proofs.lemmas.List.{set-get_or, map-set}
@@ -17,9 +18,11 @@ use Rattle.way_path.specs.declared.way.WayFault.{WayFault}
 use Rattle.way_path.specs.declared.way.WayFault.TheVariants.{NotJoined, Repeated, OutOfRange, Throats, Full}
 use Rattle.way_path.specs.Ways.{Makes}
 use Rattle.plain_state.specs.ZoneTrain.{ZoneTrain}
-use Rattle.plain_state.specs.Zone.{find_way, change_way, ways_asked, lengthened}
-use Rattle.zone_state.specs.declared.trains.Controlled.{Controlled}
-use Rattle.zone_state.specs.Zone.{plain_train, is_train, counted, way_asked, path_fits, TrainFits, AllFit}
+use Rattle.plain_state.specs.Zone.{find_way, change_way, ways_asked, lengthened, answered_by, answer}
+use Rattle.zone_reach.specs.declared.train.Controlled.{Controlled}
+use Rattle.zone_reach.specs.Train.{plain_train}
+use Rattle.zone_reach.specs.Reach.{path_fits}
+use Rattle.zone_state.specs.Zone.{is_train, counted, way_asked, TrainFits, AllFit}
 
 found_at : (t : ℕ) (xs : List Controlled) (i : ℕ) (d : Controlled) → i < length xs → is_train t (get_or xs i d) ≡ true
     → ((k : ℕ) → k < i → is_train t (get_or xs k d) ≡ false) → find_way t (map plain_train xs) ≡ Some (plain_train (get_or xs i d))
@@ -109,6 +112,14 @@ pub fit_none : (line : Line) (z clock : ℕ) (xs : List Controlled) → xs ≡ [
 unfolding AllFit
 fit_none line z clock xs e = rw e tt
 
+-- an answer to a train without a shrink
+pub answered_plain : (len : Lengths) (number : ℕ) (taken : Bool) (t : ℕ) (xs : List Controlled) → change_way t (answered_by number) (map plain_train xs) ≡ change_way t (answer len number taken) (map plain_train xs)
+unfolding change_way
+answered_plain len number taken t [] = refl
+answered_plain len number taken t (x ∷ xs) = by_test (nat_eq x.id.0 t)
+    (λ y. rw y refl)
+    (λ n. rw n (ap (λ (ys : List ZoneTrain). plain_train x ∷ ys) (answered_plain len number taken t xs)))
+
 pub fit_counted : (line : Line) (z clock number : ℕ) (x : Controlled) → TrainFits line z clock x → TrainFits line z clock (counted number x)
 fit_counted line z clock number x f = record {
   way = f.way;
@@ -165,3 +176,7 @@ entry_makes line step room (Err (Repeated i)) e h m = let w = rw (first_of_one s
 entry_makes line step room (Err OutOfRange) e h m = let r = entry_in_range line step room e h in let f = m.2 in absurd (cc)
 entry_makes line step room (Err Throats) e h m = absurd m
 entry_makes line step room (Err Full) e h m = absurd m
+
+-- what is written back of all trains
+pub written : (n : ℕ) (new old : List Controlled) → length new ≡ n → take n (new ++ drop (length new) old) ≡ new
+written n new old e = rw (← e) (take-append_seam new (drop (length new) old))

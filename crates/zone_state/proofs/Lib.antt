@@ -1,8 +1,3 @@
-pub mod Nearest
-pub mod Away
-pub mod First
-pub mod OnSteps
-pub mod Reaches
 pub mod Found
 pub mod Shown
 pub mod Timed

@@ -5,8 +5,9 @@ use Rattle.track_points.proofs.Some.{by_test}
 use Rattle.definitions.specs.Track.{Line}
 use Rattle.plain_state.specs.ZoneTrain.{ZoneTrain}
 use Rattle.plain_state.specs.Zone.{placed_way}
-use Rattle.zone_state.specs.declared.trains.Controlled.{Controlled}
-use Rattle.zone_state.specs.Zone.{plain_train, place_for, TrainFits, AllFit, Distinct}
+use Rattle.zone_reach.specs.declared.train.Controlled.{Controlled}
+use Rattle.zone_reach.specs.Train.{plain_train}
+use Rattle.zone_state.specs.Zone.{place_for, TrainFits, AllFit, Distinct}
 
 pub placed_is : (x : Controlled) (xs : List Controlled) → map plain_train (insert xs (place_for x.id.0 xs) x) ≡ placed_way (plain_train x) (map plain_train xs)
 unfolding place_for placed_way

@@ -11,8 +11,9 @@ use Rattle.definitions.specs.Steps.{Effect, nothing}
 use Rattle.way_path.specs.Ways.{place_of}
 use Rattle.plain_state.specs.ZoneTrain.{ZoneTrain}
 use Rattle.plain_state.specs.Zone.{find_way, change_way, has_mark, uses_mark, reported_place, reported_by, place_found}
-use Rattle.zone_state.specs.declared.trains.Controlled.{Controlled}
-use Rattle.zone_state.specs.Zone.{plain_train, is_train, report_given, way_reported}
+use Rattle.zone_reach.specs.declared.train.Controlled.{Controlled}
+use Rattle.zone_reach.specs.Train.{plain_train}
+use Rattle.zone_state.specs.Zone.{is_train, report_given, way_reported}
 use Rattle.zone_state.proofs.Found.{found, changed}
 
 some_same : (a b : ℤ) → Some a ≡ Some b → a ≡ b

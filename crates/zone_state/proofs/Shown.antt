@@ -5,8 +5,9 @@ use Rattle.track_points.specs.Points.{Point, Cell, Token, has_between}
 use Rattle.track_points.specs.Sets.{Points, held, token_in, set_has}
 use Rattle.definitions.specs.Track.{Line, seg_len}
 use Rattle.plain_state.specs.Zone.{find_way, hold_has}
-use Rattle.zone_state.specs.declared.trains.Controlled.{Controlled}
-use Rattle.zone_state.specs.Zone.{plain_train, is_train, AllFit, IsEnvelope}
+use Rattle.zone_reach.specs.declared.train.Controlled.{Controlled}
+use Rattle.zone_reach.specs.Train.{plain_train}
+use Rattle.zone_state.specs.Zone.{is_train, AllFit, IsEnvelope}
 use Rattle.zone_state.proofs.Found.{found_is, absent, fit_found}
 
 none_in : (p : Points) (point : Point) → p ≡ record { ranges = []; tokens = [] } → set_has p point ≡ false

@@ -11,8 +11,9 @@ use Rattle.envelope.specs.Ends.{least_left, greatest_left}
 use Rattle.envelope.proofs.Rules.{grown_hull, kept_hull, kept_none, are_ends}
 use Rattle.definitions.specs.Track.{Line}
 use Rattle.plain_state.specs.Zone.{least_kept, greatest_kept, narrowed, grown_train}
-use Rattle.zone_state.specs.declared.trains.Controlled.{Controlled}
-use Rattle.zone_state.specs.Zone.{plain_train, TrainFits, TrainStands, AllFit, CanGrow, AllCanGrow, grown_controlled, narrowed_controlled}
+use Rattle.zone_reach.specs.declared.train.Controlled.{Controlled}
+use Rattle.zone_reach.specs.Train.{plain_train}
+use Rattle.zone_state.specs.Zone.{TrainFits, TrainStands, AllFit, CanGrow, AllCanGrow, grown_controlled, narrowed_controlled}
 
 pub silent_is : (ms report clock : ℕ) → nat_lt ms (clock - report) ≡ nat_lt (report + ms) clock
 silent_is ms report clock = grind (arith, nat_tests)

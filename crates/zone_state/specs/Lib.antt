@@ -1,2 +1,4 @@
-pub mod Held
+pub use Rattle.zone_reach.specs.Train
+pub use Rattle.zone_reach.specs.Reach
+pub use Rattle.zone_reach.specs.Held
 pub mod Zone

@@ -1,47 +1,32 @@
--- The first obstacle in closed form, and what a zone keeps.
-use Rattle.std.specs.Prelude.{◌≡◌, ℕ, suc, ℤ, List, [], ◌∷◌, ◌+◌, ◌-◌, ◌<◌, ◌≤◌, length, map, filter, take, if◌then◌else◌, Bool, true, ◌&&◌, not, nat_eq, nat_lt, nat_le, min, max, Option, Some, None, ⊤}
+-- What a zone keeps, and what holds of it.
+use Rattle.std.specs.Prelude.{◌≡◌, ℕ, suc, ℤ, List, [], ◌∷◌, ◌+◌, ◌-◌, ◌≤◌, map, filter, if◌then◌else◌, Bool, true, ◌&&◌, not, nat_eq, nat_lt, nat_le, min, max, Option, Some, None, ⊤}
 use Rattle.track_points.specs.declared.ids.DirSeg.{DirSeg}
 use Rattle.track_points.specs.declared.ids.TrainId.{TrainId}
 use Rattle.track_points.specs.declared.path.Path.{Path}
-use Rattle.track_points.specs.Points.{Lengths, Point, total, place_of_last, end_place}
+use Rattle.track_points.specs.Points.{Lengths, Point}
 use Rattle.track_points.specs.Sets.{Points, set_has}
 use Rattle.definitions.specs.Track.{Line, seg_len, has_segment, last_step}
 use Rattle.definitions.specs.declared.message.Msg.{Msg}
 use Rattle.definitions.specs.declared.message.Msg.TheVariants as msg
 use Rattle.definitions.specs.declared.outcome.Obstacle.{Obstacle}
-use Rattle.definitions.specs.declared.outcome.Obstacle.TheVariants.{AskEnds, TrackEnds, Held, PathFull}
 use Rattle.definitions.specs.declared.outcome.Outcome.{Outcome}
 use Rattle.definitions.specs.declared.outcome.Outcome.TheVariants as out
 use Rattle.definitions.specs.Limit as limits
-use Rattle.definitions.specs.Steps.{Effect, nothing, entry_path, path_to}
+use Rattle.definitions.specs.Steps.{Effect, nothing, entry_path}
 use Rattle.definitions.specs.Ways.{PlainWay}
 use Rattle.way_path.specs.Ways.{IsWay, OnLine, EndsWithPath}
 use Rattle.plain_state.specs.ZoneTrain.{ZoneTrain}
 use Rattle.plain_state.specs.Zone.{PlainZone, find_way, lengthened, hold_has, envelope_has, has_mark, least_kept, greatest_kept, narrowed, reported_by, place_found, alarm_of}
 use Rattle.envelope.specs.Fronts.{farthest_move}
-use Rattle.zone_state.specs.declared.reach.Stop.{Stop}
-use Rattle.zone_state.specs.declared.reach.Reach.{Reach}
-use Rattle.zone_state.specs.declared.trains.Controlled.{Controlled}
+use Rattle.zone_reach.specs.declared.train.Controlled.{Controlled}
+use Rattle.zone_reach.specs.Train.{plain_train}
+use Rattle.zone_reach.specs.Reach.{ReachFits}
 
 -- what a zone keeps: its number, its Now, and the trains that it controls
 pub record ZoneKept : Type 0 where
   pub id : ℕ
   pub clock : ℕ
   pub trains : List Controlled
-
--- a train without its hold, and the zone's plain state
-abbrev pub plain_train : Controlled → ZoneTrain
-plain_train x = record {
-  id = x.id;
-  train_length = x.train_length;
-  error = x.error;
-  speed = x.speed;
-  way = x.way;
-  fronts = x.fronts;
-  report = x.report;
-  last = x.last;
-  answered = x.answered;
-}
 
 abbrev pub plain_zone : ZoneKept → PlainZone
 plain_zone z = record { id = z.id; clock = z.clock; trains = map plain_train z.trains }
@@ -113,7 +98,7 @@ is_train t x = nat_eq x.id.0 t
 
 -- a train one of whose answers is counted
 abbrev pub counted : ℕ → Controlled → Controlled
-counted number x = record x { answered = max x.answered number }
+counted number x = record x { answered = if nat_lt x.answered number && nat_le number x.last then number else x.answered }
 
 -- a train whose fronts have grown
 abbrev pub grown_controlled : ℕ → Controlled → Controlled
@@ -151,58 +136,9 @@ unfoldable pub place_for : ℕ → List Controlled → ℕ
 place_for t [] = 0
 place_for t (x ∷ xs) = if nat_lt t x.id.0 then 0 else suc (place_for t xs)
 
--- of two obstacles the nearer one, the first at a tie; one before the limit does not stand
-abbrev pub nearer : ℕ → Bool → Stop → Stop → Stop
-nearer limit stands other so_far = if stands && (nat_le limit other.place && nat_lt other.place so_far.place) then other else so_far
-
--- the first of the end of the ask, the end of the track, a held place and a full path; `h` is the first held place, `t`
--- the end of all steps
-abbrev pub first_stop : Bool → Bool → ℕ → ℕ → ℕ → ℕ → ℕ → Stop
-first_stop a b limit e t f h =
-    nearer limit b (record { place = f; obstacle = PathFull }) (nearer limit (nat_lt h t) (record { place = h; obstacle = Held }) (nearer limit a (record { place = t; obstacle = TrackEnds }) (record { place = e; obstacle = AskEnds })))
-
--- the same of an asked way
-abbrev pub stop_on : Lengths → List DirSeg → ℕ → ℕ → ℕ → Stop
-stop_on len asked limit to h =
-    first_stop (nat_lt (len (last_step asked).seg.0) to) (nat_lt 24 (length asked)) limit (max limit (place_of_last len asked to)) (total len asked) (total len (take 24 asked)) h
-
--- a reach as the definitions have it
-abbrev pub reach_value : Reach → limits.Reach
-reach_value r = record { distance = r.distance; obstacle = r.obstacle }
-
--- the distance and the obstacle of the first stop
-abbrev pub stop_reach : ℕ → Stop → limits.Reach
-stop_reach limit stop = record { distance = stop.place - limit; obstacle = stop.obstacle }
-
--- the path has a step, and ends on its last
-abbrev pub path_fits : Lengths → Path → Bool
-path_fits len path = nat_lt 0 (length path.steps.items) && nat_le (end_place len path) (total len path.steps.items)
-
--- what holds of how far an ask of a path reaches
-pub record ReachFits (line : Line) (path : Path) (asked : List DirSeg) (distance : ℕ) : Type 0 where
-  pub within : end_place (seg_len line) path + distance ≤ total (seg_len line) (take 24 (limits.asked_way path.steps.items asked))
-  pub continued : 0 < distance → limits.continues line path.steps.items asked ≡ true
-  pub most : 0 < distance → end_place (seg_len line) path + distance ≤ 240000000
-
 abbrev pub ReachFitsFound : Line → Option Path → List DirSeg → ℕ → Type 0
 ReachFitsFound line None asked distance = ⊤
 ReachFitsFound line (Some path) asked distance = ReachFits line path asked distance
-
--- a way with other steps
-abbrev pub with_steps : PlainWay → List DirSeg → PlainWay
-with_steps way steps = record {
-  mark = way.mark;
-  path = record { steps = record { items = steps }; from = way.path.from; to = way.path.to };
-  end = way.end;
-}
-
--- a way lengthened up to a distance from its end
-abbrev pub longer_way : Lengths → List DirSeg → ℕ → PlainWay → PlainWay
-longer_way len asked distance way = record {
-  mark = way.mark;
-  path = path_to len way.path.from (limits.asked_way way.path.steps.items asked) (end_place len way.path + distance);
-  end = end_place len way.path + distance;
-}
 
 -- a train behind an ask of its own
 abbrev pub way_asked : Lengths → List DirSeg → limits.Reach → ZoneTrain → ZoneTrain

@@ -2,11 +2,12 @@
 ghost use Rattle.std.specs.Prelude.{nat_lt, ◌≡◌, ◌≤◌, ◌+◌, ◌++◌, ℕ, List, length, map};
 ghost use Rattle.definitions.specs.declared.item.Item.{Item};
 ghost use Rattle.plain_state.specs.Zone.{grown_train};
-ghost use Rattle.zone_state.specs.Zone.{plain_train, grown_controlled, AllFit, CanGrow, AllCanGrow, falls_silent, alarms_of};
+ghost use Rattle.zone_reach.specs.Train.{plain_train};
+ghost use Rattle.zone_state.specs.Zone.{grown_controlled, AllFit, CanGrow, AllCanGrow, falls_silent, alarms_of};
 
-use crate::trains::Controlled;
 use msg_codec::{Outcome, Outs};
 use track_points::ZoneId;
+use zone_reach::Controlled;
 
 /// Whether a train is silent at a Now, which is more than some ms behind its last report.
 #[tactic(auto, using(crate::proofs::Timed::silent_is))]

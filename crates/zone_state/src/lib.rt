@@ -9,15 +9,8 @@
 #![tactic(auto)]
 
 mod clock;
-mod held;
-pub mod reach;
 mod report;
-mod steps;
 mod trains;
 pub mod zone;
 
-pub use reach::Reach;
 pub use zone::Zone;
-
-#[cfg(test)]
-mod tests;

@@ -4,12 +4,14 @@ ghost use Rattle.definitions.specs.declared.item.Item.{Item};
 ghost use Rattle.definitions.specs.Track.{seg_len};
 ghost use Rattle.definitions.specs.Steps.{nothing};
 ghost use Rattle.plain_state.specs.Zone.{find_way, change_way, uses_mark, place_found, place_of_train, reported_by, cut_at_rear};
-ghost use Rattle.zone_state.specs.Zone.{plain_train, TrainFits, TrainStands, AllFit, FitFrom, narrowed_controlled, report_given, way_reported};
+ghost use Rattle.zone_reach.specs.Train.{plain_train};
+ghost use Rattle.zone_state.specs.Zone.{TrainFits, TrainStands, AllFit, FitFrom, narrowed_controlled, report_given, way_reported};
 
-use crate::trains::{Controlled, hold_of, train_index};
+use crate::trains::{hold_of, train_index};
 use line_map::Line;
 use msg_codec::{Outcome, Outs};
 use track_points::{TrainId, ZoneId};
+use zone_reach::Controlled;
 
 /// A report of a train: its time, where the front was, as an offset on the step of a mark, and whether the train is whole.
 #[derive(Clone, Copy)]

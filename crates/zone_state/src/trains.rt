@@ -8,12 +8,11 @@ ghost use Rattle.definitions.specs.Track.{owner, seg_len, has_segment};
 ghost use Rattle.definitions.specs.Steps.{nothing, zone_ask, zone_entry, deny, refuse, entry_path};
 ghost use Rattle.way_path.specs.Ways.{IsWay, OnLine, EndsWithPath};
 ghost use Rattle.plain_state.specs.Zone.{find_way, change_way, answered_by, lengthened, last_found, path_found, way_found, again_found, placed_way, reach_plain, holder_plain, full, fresh_train, ways_asked, ways_entered, entered_way};
-ghost use Rattle.zone_state.specs.Zone.{plain_train, TrainFits, AllFit, is_train, counted, reach_value, ReachFits, ReachFitsFound, longer_way, way_granted, way_asked, entry_way, entry_granted, place_for};
+ghost use Rattle.zone_reach.specs.Train.{plain_train};
+ghost use Rattle.zone_reach.specs.Reach.{reach_value, ReachFits, longer_way};
+ghost use Rattle.zone_state.specs.Zone.{TrainFits, AllFit, is_train, counted, ReachFitsFound, way_granted, way_asked, entry_way, entry_granted, place_for};
 
 use crate::clock::is_silent;
-use crate::held::holder;
-use crate::reach::{Reach, barred, reach_from};
-use crate::steps::{extend_by, further};
 use arrayvec::ArrayVec;
 use definitions::outcome::{Obstacle, Refusal};
 use envelope::Fronts;
@@ -22,30 +21,10 @@ use msg_codec::{Msg, Outcome, Outs};
 use track_points::{DirSeg, Path, PointSet, TrainId, ZoneId};
 use way_path::Way;
 use way_path::on_steps::last_step;
-
-/// A train that a zone controls.
-#[derive(Drop)]
-pub struct Controlled {
-    pub id: TrainId,
-    /// In mm.
-    pub train_length: u32,
-    /// How far a report of it may be off, in mm.
-    pub error: u32,
-    /// Its greatest speed, in mm/s.
-    pub speed: u32,
-    /// From its least rear to the end of the longest authority that it may hold.
-    pub way: Way,
-    /// Where its front may be, as places on its way.
-    pub fronts: Fronts,
-    /// The greatest time of a report that it used, in ms; the entry counts as one.
-    pub report: u64,
-    /// The last number issued to it.
-    pub last: u32,
-    /// The greatest number counted from its answers.
-    pub answered: u32,
-    /// The points of its way in the zone's own track.
-    pub hold: PointSet,
-}
+use zone_reach::Controlled;
+use zone_reach::held::holder;
+use zone_reach::reach::{Reach, barred, reach_from};
+use zone_reach::steps::lengthen_way;
 
 /// Where a train stands among those that the zone controls.
 pub fn train_index(trains: &[Controlled], train: TrainId) -> Option<usize>
@@ -58,10 +37,12 @@ pub fn train_index(trains: &[Controlled], train: TrainId) -> Option<usize>
 fn count_answer(x: &mut Controlled, number: u32)
     ensures { x.new ≡ counted number x.old }
 {
-    x.answered = x.answered.max(number);
+    if number > x.answered && number <= x.last {
+        x.answered = number;
+    }
 }
 
-/// Counts an answer of a train.
+/// Counts an answer of a train, to a number that was issued and is above the greatest counted.
 pub fn answer(trains: &mut [Controlled], train: TrainId, number: u32)
     ensures next { map plain_train trains.new ≡ change_way train.0 (answered_by number) (map plain_train trains.old) }
     ensures fits { (line : List Item) (z clock : ℕ) → AllFit line z clock trains.old → AllFit line z clock trains.new }
@@ -76,23 +57,6 @@ fn denied(zone: u8, train: TrainId, reach: Reach, outs: &mut Outs)
     ensures { outs.new ≡ deny zone train (reach_value reach) }
 {
     outs.tell(Outcome::Deny(ZoneId(zone), train, reach.obstacle));
-}
-
-/// Lengthens a way up to a distance from its end.
-fn lengthen_way(line: &Line, way: &mut Way, asked: &[DirSeg], distance: u32)
-    requires on_line { OnLine line.now way.old }
-    requires ends { EndsWithPath (seg_len line.now) way.old }
-    requires marks { way.old.mark + 24 < 2 ^ 32 }
-    requires some { 0 < distance }
-    requires reaches { ReachFits line.now way.old.path asked.now distance }
-    ensures way { way.new ≡ longer_way (seg_len line.now) asked.now distance way.old }
-    ensures on_line { OnLine line.now way.new }
-    ensures ends { EndsWithPath (seg_len line.now) way.new }
-{
-    let place = way.end() + distance;
-    let more = further(way.path().steps.as_slice(), asked);
-    extend_by(line, way, more);
-    way.set_end(line, place);
 }
 
 /// The points of a way in a zone's own track.

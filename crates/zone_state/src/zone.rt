@@ -8,16 +8,18 @@ ghost use Rattle.definitions.specs.Control.{message_time};
 ghost use Rattle.definitions.specs.Steps.{nothing};
 ghost use Rattle.plain_state.specs.Plain.{zone_start};
 ghost use Rattle.plain_state.specs.Zone.{find_way, hold_has, zone_answer, zone_gives, ways_after, enters_here, fresh_number, fresh_mark, fresh_train, fresh_message, fresh, trains_stepped, zone_take_effect, zone_take_next};
-ghost use Rattle.zone_state.specs.Zone.{plain_train, plain_zone, Distinct, AllFit, IsZoneOn, IsEnvelope, InRange, entry_declared};
+ghost use Rattle.zone_reach.specs.Train.{plain_train};
+ghost use Rattle.zone_state.specs.Zone.{plain_zone, Distinct, AllFit, IsZoneOn, IsEnvelope, InRange, entry_declared};
 
 use crate::clock::{alarms, grow_all};
 use crate::report::{PositionReport, report};
-use crate::trains::{Controlled, Request, answer, ask, enter, send_again, train_index};
+use crate::trains::{Request, answer, ask, enter, send_again, train_index};
 use line_map::Line;
 use msg_codec::{Msg, Outs};
 use std::alloc::{AllocError, Global};
 use std::marker::Model;
 use track_points::{PointSet, TrainId, ZoneId};
+use zone_reach::Controlled;
 
 /// How many trains a zone has room for.
 const ROOM: usize = 256;
@@ -33,7 +35,8 @@ pub struct Zone {
 
 impl Model for Zone {
     ghost use Rattle.std.specs.Prelude.{◌≤◌, length, map, vec_capacity};
-    ghost use Rattle.zone_state.specs.Zone.{ZoneKept, plain_train, Distinct};
+    ghost use Rattle.zone_reach.specs.Train.{plain_train};
+    ghost use Rattle.zone_state.specs.Zone.{ZoneKept, Distinct};
 
     ghost Value = { ZoneKept };
 

@@ -1,5 +1,5 @@
 use Rattle.definitions.specs.Track.{seg_len}
-use Rattle.zone_state.specs.Zone.{plain_train}
+use Rattle.zone_reach.specs.Train.{plain_train}
 use Rattle.zone_state.proofs.Behind.{cut_train}
 use Rattle.zone_state.proofs.report.cut.Goals as goal
 

@@ -1,6 +1,6 @@
 use Rattle.std.proofs.Common.{sym, ap}
 use Rattle.plain_state.specs.Zone.{answered_by}
-use Rattle.zone_state.specs.Zone.{plain_train}
+use Rattle.zone_reach.specs.Train.{plain_train}
 use Rattle.zone_state.proofs.Found.{changed, kept, fit_set, fit_one, fit_counted}
 use Rattle.zone_state.proofs.trains.answer.Goals as goal
 

@@ -1,7 +1,7 @@
 use Rattle.std.proofs.Common.{sym, refl}
 use Rattle.definitions.specs.Track.{seg_len}
 use Rattle.plain_state.specs.Zone.{fresh_train}
-use Rattle.zone_state.specs.Zone.{reach_value}
+use Rattle.zone_reach.specs.Reach.{reach_value}
 use Rattle.zone_state.proofs.Found.{found, absent, asked_at, passes, fit_one, fit_set, fit_own, fit_again}
 use Rattle.zone_state.proofs.trains.ask.Goals as goal
 

@@ -1,6 +1,6 @@
 use Rattle.std.proofs.Common.{map, arith}
 use Rattle.plain_state.specs.Zone.{PlainZone}
-use Rattle.zone_state.specs.Zone.{plain_train}
+use Rattle.zone_reach.specs.Train.{plain_train}
 use Rattle.zone_state.proofs.Advanced.{gives_one, stepped_follows, gave, count_plain}
 use Rattle.zone_state.proofs.zone.advance.Goals as goal
 

@@ -1,6 +1,6 @@
 use Rattle.std.proofs.Common.{◌≡◌, length, map, drop, sym, ◌∙◌}
 use Rattle.std.proofs.Math.Seq.{take-append_seam}
-use Rattle.zone_state.specs.Zone.{plain_train}
+use Rattle.zone_reach.specs.Train.{plain_train}
 use Rattle.zone_state.proofs.Timed.{can_grow}
 use Rattle.zone_state.proofs.Alarms.{fresh_grown}
 use Rattle.zone_state.proofs.zone.move_on.Goals as goal

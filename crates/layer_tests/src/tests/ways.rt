@@ -1,0 +1,76 @@
+//! A way: made of a path, refused for a fault, asked for its places and points, and moved.
+ghost use Rattle.way_path.specs.Ways.{OnLine};
+
+use crate::tests::line::{down, line_of, path, up};
+use line_map::Line;
+use std::process::Abort;
+use track_points::{DirSeg, Path, SegId, ZoneId};
+use way_path::on_steps::total;
+use way_path::{Way, WayFault};
+
+/// The way of a path, with the mark 7.
+fn way_of(rt: &impl Abort, line: &Line, path: &Path) -> Way
+    ensures { OnLine line.now result }
+{
+    assert!(rt; path.steps.as_slice().len() <= 24);
+    match Way::of_path(line, 7, path) {
+        Ok(way) => way,
+        Err(_) => panic!(rt; "no way"),
+    }
+}
+
+/// One more step.
+fn add(rt: &impl Abort, line: &Line, way: &mut Way, step: DirSeg) -> Result<(), WayFault>
+    requires { OnLine line.now way.old }
+    ensures { OnLine line.now way.new }
+{
+    assert!(rt; way.mark() < 100 && way.path().steps.as_slice().len() <= 24);
+    way.extend(line, step)
+}
+
+#[test]
+fn a_way_has_places(rt: HostRuntime) {
+    let Ok(line) = line_of(rt.alloc()) else {
+        panic!(rt; "no line");
+    };
+    let way = way_of(&rt, &line, &path(&[up(1), up(2), down(3)], 20, 10));
+    assert!(rt; way.mark() == 7 && way.from() == 20 && way.end() == 1510);
+    assert!(rt; way.front_at(&line, 1500) == (up(2), 500));
+    assert!(rt; way.rear_at(&line, 1500) == (down(3), 0));
+    assert!(rt; way.place_of(&line, 8, 5) == Some(1005));
+    let points = way.points(&line, 999, 1502);
+    let own = way.points_in(&line, ZoneId(3), 999, 1502);
+    assert!(rt; points.has_cell(SegId(3), 698) && !points.has_cell(SegId(3), 697));
+    assert!(rt; own.has_cell(SegId(1), 999) && !own.has_cell(SegId(1), 998));
+}
+
+/// The way up to a place.
+fn end_at(rt: &impl Abort, line: &Line, way: &mut Way, place: u32)
+    requires { OnLine line.now way.old }
+    ensures { OnLine line.now way.new }
+{
+    assert!(rt; way.from() < place && place <= total(line, way.path().steps.as_slice()));
+    way.set_end(line, place);
+}
+
+/// The way from a place on, and what is dropped.
+fn begin_at(rt: &impl Abort, line: &Line, way: &mut Way, place: u32) -> u32
+    requires { OnLine line.now way.old }
+    ensures { OnLine line.now way.new }
+{
+    assert!(rt; way.from() <= place && place < way.end());
+    way.set_from(line, place)
+}
+
+#[test]
+fn a_way_moves(rt: HostRuntime) {
+    let Ok(line) = line_of(rt.alloc()) else {
+        panic!(rt; "no line");
+    };
+    let mut way = way_of(&rt, &line, &path(&[up(1)], 20, 1000));
+    assert!(rt; add(&rt, &line, &mut way, up(2)) == Ok(()));
+    assert!(rt; add(&rt, &line, &mut way, up(1)) == Err(WayFault::NotJoined(2)));
+    end_at(&rt, &line, &mut way, 1200);
+    assert!(rt; begin_at(&rt, &line, &mut way, 1000) == 1000);
+    assert!(rt; way.mark() == 8 && way.from() == 0 && way.end() == 200);
+}

@@ -1,0 +1,5 @@
+pub mod Nearest
+pub mod Away
+pub mod First
+pub mod OnSteps
+pub mod Reaches

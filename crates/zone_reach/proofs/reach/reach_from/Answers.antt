@@ -1,0 +1,39 @@
+use Rattle.std.proofs.Common.{rules, true, ◌≡◌, ◌∙◌, ◌&&◌, map}
+use Rattle.track_points.specs.Points.{end_place}
+use Rattle.definitions.specs.Track.{seg_len}
+use Rattle.definitions.specs.Limit.{asked_way, continues}
+use Rattle.zone_reach.specs.Train.{plain_train}
+use Rattle.zone_reach.proofs.Reaches.{end_within, reach_is, bars_all}
+use Rattle.zone_reach.proofs.reach.reach_from.Goals as goal
+
+pub reach_on-requires-clause-near : goal.reach_on-requires-clause-near
+reach_on-requires-clause-near c =
+    let w = rw c.as_slice-steps.ensures.value at (c.as_slice-3.ensures.value ∙ c.asked_way-way.ensures) in
+    let l = rw c.as_slice-steps.ensures.value at c.place_of_last-limit.ensures.place in
+    rw (l, w) (end_within (seg_len c.args.line.now) c.args.path.now c.args.asked.now (rw c.as_slice-steps.ensures.value at c.as_slice-steps.ensures.fits) c.requires.fits)
+
+pub returns-clause-reach : goal.returns-clause-reach
+returns-clause-reach c =
+    let w = rw c.as_slice-steps.ensures.value at (c.as_slice-3.ensures.value ∙ c.asked_way-way.ensures) in
+    let v = rw c.as_slice-steps.ensures.value at (c.as_slice-2.ensures.value ∙ c.asked_way-way.ensures) in
+    let l = rw c.as_slice-steps.ensures.value at c.place_of_last-limit.ensures.place in
+    let p = rw (v, l) at c.first_held-held_place.ensures.held in
+    let r = rw (w, l, p) at c.reach_on.ensures.reach in
+    let t : (c.args.ready && continues c.args.line.now c.args.path.now.steps.items c.args.asked.now) ≡ true = search rules in
+    let n = c.if-silent.false in
+    rw (t, n) (r ∙ reach_is c.args.line.now c.args.zone (map plain_train c.args.trains.now) c.args.train.0 (asked_way c.args.path.now.steps.items c.args.asked.now)
+    (end_place (seg_len c.args.line.now) c.args.path.now) c.args.to)
+
+pub returns-then-not-continues-clause-fits : goal.returns-then-not-continues-clause-fits
+returns-then-not-continues-clause-fits c =
+    bars_all c.args.line.now c.args.path.now c.args.asked.now _ (rw c.as_slice-steps.ensures.value at c.as_slice-steps.ensures.fits) c.requires.fits c.barred.ensures.none
+
+pub returns-then-silent-clause-fits : goal.returns-then-silent-clause-fits
+returns-then-silent-clause-fits c =
+    bars_all c.args.line.now c.args.path.now c.args.asked.now _ (rw c.as_slice-steps.ensures.value at c.as_slice-steps.ensures.fits) c.requires.fits c.barred-then-silent.ensures.none
+
+pub returns-clause-fits : goal.returns-clause-fits
+returns-clause-fits c =
+    let w = rw c.as_slice-steps.ensures.value at (c.as_slice-3.ensures.value ∙ c.asked_way-way.ensures) in
+    let l = rw c.as_slice-steps.ensures.value at c.place_of_last-limit.ensures.place in
+    record { within = rw (w, l) at c.reach_on.ensures.within; continued = λ k. search rules; most = λ k. rw l at c.reach_on.ensures.most }

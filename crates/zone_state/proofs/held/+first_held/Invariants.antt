@@ -1,5 +1,0 @@
-use Rattle.std.proofs.Common.{length}
-use Rattle.zone_state.proofs.held.+first_held.Given as goal
-
-abbrev pub decreases-first_held : goal.decreases-first_held
-decreases-first_held l = length l.asked.now

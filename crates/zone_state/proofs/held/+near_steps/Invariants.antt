@@ -1,5 +1,0 @@
-use Rattle.std.proofs.Common.{length}
-use Rattle.zone_state.proofs.held.+near_steps.Given as goal
-
-abbrev pub decreases-near_steps : goal.decreases-near_steps
-decreases-near_steps l = length l.steps.now
