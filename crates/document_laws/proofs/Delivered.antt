@@ -9,6 +9,7 @@ use Rattle.definitions.specs.declared.event.Event.TheVariants.{Train, Entry, Ent
 use Rattle.definitions.specs.declared.message.Msg.{Msg}
 use Rattle.definitions.specs.Track.{Line, is_actor}
 use Rattle.definitions.specs.Story.{Story, sent}
+use Rattle.definitions.specs.Numbers.{least}
 use Rattle.definitions.specs.Premises.{admits}
 use Rattle.definitions.specs.Steps.{effects, story_of, taking, message, taken_most, takes_from, due, sends_to, actors, deliveries}
 use Rattle.definitions.specs.Safe.{Kept}
@@ -62,6 +63,7 @@ number_same : (m n : ℕ) → nat_eq m n ≡ true → m ≡ n
 number_same m n h = grind (arith, nat_tests)
 
 fit_admitted : (line : Line) (to from number : ℕ) (s t : Story) → SameSent to s t → is_actor line to ≡ true → fits line to s (Take to from number) ≡ true → admits line t (Take to from number) ≡ true
+unfolding least
 fit_admitted line to from number s t same act h =
     let k = both (nat_eq to to) (sends_to line to from && (nat_lt 0 number && nat_le number (length (sent from to s)))) h in
     let x = both (sends_to line to from) (nat_lt 0 number && nat_le number (length (sent from to s))) k.1 in

@@ -9,10 +9,11 @@ use Rattle.definitions.specs.declared.event.Kind.TheVariants.{Equipped}
 use Rattle.definitions.specs.declared.document.Ending.TheVariants as ends
 use Rattle.definitions.specs.Lines.{text_lines, text_of}
 use Rattle.definitions.specs.Grammar.{line_of, form_of, item_form, event_form, zone_line, segment_line, joint_line, portal_line, buffer_line, silent_line, script_line, train_line, entry_line, enter_line, ask_line, step_line, report_line, time_line, take_line, deliver_line, word_at, number_at, digits_at, field_at, ranged_at}
+use Rattle.definitions.specs.Numbers.{numbers_below, least}
 use Rattle.definitions.specs.Rules.{rule_of, finish_rule, builds}
 use Rattle.definitions.specs.Story.{first_told, sent, to_actor, ever}
 use Rattle.definitions.specs.World.{trains}
-use Rattle.definitions.specs.Control.{known_trains}
+use Rattle.definitions.specs.Control.{controls, greatest_known}
 use Rattle.definitions.specs.Steps.{story_of, taken_most, takes_from}
 use Rattle.definitions.specs.Trace.{trace, went}
 use Rattle.document_laws.specs.Whole.{said, behind_events, Admitted, IsDocument, IsDocumentWithoutScript, story_text, whole}
@@ -31,11 +32,11 @@ abbrev scripted : List ℕ
 scripted = codes "zone 1\n\nscript\ntrain 7 60 2 20 eq\n"
 
 is_alone : IsDocumentWithoutScript alone items
-unfolding said text_lines text_of line_of form_of item_form zone_line word_at number_at digits_at field_at rule_of finish_rule builds
+unfolding said text_lines text_of line_of form_of item_form zone_line word_at number_at digits_at field_at rule_of finish_rule least builds
 is_alone = record { says_ = refl; builds = refl; one = omega arith; finished = refl; within = omega arith }
 
 is_scripted : IsDocument scripted items events
-unfolding said text_lines text_of line_of form_of item_form event_form zone_line segment_line joint_line portal_line buffer_line silent_line script_line train_line word_at number_at digits_at field_at ranged_at rule_of finish_rule builds Admitted story_of first_told trains
+unfolding said text_lines text_of line_of form_of item_form event_form zone_line segment_line joint_line portal_line buffer_line silent_line script_line train_line word_at number_at digits_at field_at ranged_at rule_of finish_rule least builds Admitted story_of first_told trains
 is_scripted = record { says_ = refl; builds = refl; one = omega arith; finished = refl; kept = (refl, tt); within = omega arith }
 
 alone_gives : trace alone ≡ whole items []
@@ -57,7 +58,7 @@ unfolding behind_events went story_of sent to_actor taken_most takes_from
 is_take = refl
 
 is_delivered : IsDocument delivered items further
-unfolding said text_lines text_of line_of form_of item_form event_form zone_line segment_line joint_line portal_line buffer_line silent_line script_line train_line entry_line enter_line ask_line step_line report_line time_line take_line deliver_line word_at number_at digits_at field_at ranged_at rule_of finish_rule builds Admitted went story_of first_told trains sent to_actor taken_most takes_from
+unfolding said text_lines text_of line_of form_of item_form event_form zone_line segment_line joint_line portal_line buffer_line silent_line script_line train_line entry_line enter_line ask_line step_line report_line time_line take_line deliver_line word_at number_at digits_at field_at ranged_at rule_of finish_rule least builds Admitted went story_of first_told trains sent to_actor taken_most takes_from
 is_delivered = record { says_ = refl; builds = refl; one = omega arith; finished = refl; kept = (refl, (refl, (refl, tt))); within = omega arith }
 
 delivered_gives : trace delivered ≡ whole items further
@@ -65,7 +66,7 @@ delivered_gives = document_gives delivered items further is_delivered
 
 -- no outcome line, and three events
 no_lines : story_text (story_of items (behind_events items [] further)) ≡ []
-unfolding behind_events went story_of first_told sent to_actor taken_most takes_from known_trains ever
+unfolding behind_events went story_of first_told sent to_actor taken_most takes_from controls greatest_known numbers_below ever
 no_lines = refl
 
 three_events : (whole items further).ending ≡ ends.Done 3

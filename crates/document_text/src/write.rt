@@ -7,7 +7,7 @@ ghost use Rattle.document_text.specs.Parts.{part_text, parts_text};
 
 use Part::{Held, Number, Premise, Rule, Step};
 use definitions::document::Ending;
-use definitions::outcome::{Obstacle, Outcome, Refusal, Verdict};
+use definitions::outcome::{AnswerWord, Obstacle, Outcome, Refusal};
 use edge_io::stream::Sink;
 use edge_io::writing::{WriteFault, write_text};
 use track_points::{Dir, DirSeg, TrainId, ZoneId};
@@ -107,12 +107,12 @@ fn write_line<K: Sink>(
     }
 }
 
-/// The word of a verdict, which ends its line.
-fn verdict_word(verdict: Verdict) -> &'static [u8]
-    ensures { result.now ≡ Rattle.definitions.specs.Endings.verdict_word verdict }
+/// The word of an answer, which ends its line.
+fn answer_word(word: AnswerWord) -> &'static [u8]
+    ensures { result.now ≡ Rattle.definitions.specs.Endings.answer_word word }
 {
-    match verdict {
-        Verdict::Taken => b" taken\n",
+    match word {
+        AnswerWord::Taken => b" taken\n",
     }
 }
 
@@ -203,9 +203,9 @@ pub fn write_outcome<K: Sink>(outcome: &Outcome, sink: &mut K) -> Result<(), Wri
             write_line(b"place", &parts, b"\n", sink)
         }
         Outcome::AlarmSilent(z, t) => write_alarm(z, t, sink),
-        Outcome::Answer(t, n, verdict) => {
+        Outcome::Answer(t, n, word) => {
             let parts = [Number(t.0 as u64), Number(n as u64)];
-            write_line(b"answer", &parts, verdict_word(verdict), sink)
+            write_line(b"answer", &parts, answer_word(word), sink)
         }
     }
 }

@@ -12,21 +12,22 @@ use Rattle.definitions.specs.declared.message.Msg.TheVariants as msg
 use Rattle.definitions.specs.Track.{Line, seg_len}
 use Rattle.definitions.specs.Story.{Entry as Made, Story}
 use Rattle.definitions.specs.World.{is_auth, enters}
-use Rattle.definitions.specs.Control.{grants_entry, asks_entry, controls, knows, knows_most, asked_facts, known_facts, now_of, took_time}
+use Rattle.definitions.specs.Control.{grants_entry, asks_entry, controls, knows, knows_most, asked_facts, known_train, known_facts, now_of, took_time}
 use Rattle.definitions.specs.Authority.{holder_of}
 use Rattle.definitions.specs.Steps.{zone_entry, takes, taking, message, effects}
-use Rattle.motion_laws.proofs.Notions.{both, ever_same}
+use Rattle.motion_laws.proofs.Notions.{both}
+use Rattle.motion_laws.proofs.Controls.{controls_knows, controls_same}
 use Rattle.motion_laws.proofs.Moves.{effect_event}
 
 -- The recursions.
 
 pub known_granted : (z t : ℕ) (x : Made) (s : Story) → grants_entry z t x ≡ true → known_facts z t (x ∷ s) ≡ asked_facts x.took
-unfolding known_facts
-known_granted z t x s h = rw h refl
+unfolding known_train
+known_granted z t x s h = rw (h, known_facts) refl
 
 pub known_same : (z t : ℕ) (x : Made) (s : Story) → grants_entry z t x ≡ false → known_facts z t (x ∷ s) ≡ known_facts z t s
-unfolding known_facts
-known_same z t x s h = rw h refl
+unfolding known_train
+known_same z t x s h = rw (h, known_facts) refl
 
 pub now_idle : (z : ℕ) (x : Made) (s : Story) → nat_eq x.actor z ≡ false → now_of z (x ∷ s) ≡ now_of z s
 unfolding now_of
@@ -37,7 +38,7 @@ unfolding now_of
 now_acted z x s y = rw y refl
 
 pub controls_before : (z t : ℕ) (x : Made) (s : Story) → grants_entry z t x ≡ false → controls z t (x ∷ s) ≡ true → controls z t s ≡ true
-controls_before z t x s h c = sym (ever_same (λ (e : Made). grants_entry z t e) x s h) ∙ c
+controls_before z t x s h c = sym (controls_same z t x s h) ∙ c
 
 -- An entry is granted where the zone does not know the train yet, by a take.
 
@@ -75,7 +76,7 @@ untaken z t actor issued h = no_grant (nat_eq actor z) (list_any (λ (x : ℕ ×
 
 pub grant_takes : (line : Line) (s : Story) (e : Event) (z t : ℕ) → grants_entry z t (effects line s e) ≡ true → (controls z t s ≡ false) × (enters t (effects line s e).event ≡ false)
 grant_takes line s (Take to from number) z t h = (
-  taking_grants line s (Take to from number) z t to from (message from to number s) h,
+  controls_knows z t s ∙ taking_grants line s (Take to from number) z t to from (message from to number s) h,
   ap (λ (x : Event). enters t x) (effect_event line s (Take to from number)),
 )
 grant_takes line s (Train u long error speed kind) z t h = absurd (let c = untaken z t 0 (effects line s (Train u long error speed kind)).issued h in cc)

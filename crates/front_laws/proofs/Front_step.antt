@@ -14,7 +14,7 @@ use Rattle.definitions.specs.declared.event.Event.{Event}
 use Rattle.definitions.specs.declared.message.Msg.{Msg}
 use Rattle.definitions.specs.declared.message.Msg.TheVariants as msg
 use Rattle.definitions.specs.Track.{Line, seg_len}
-use Rattle.definitions.specs.Story.{Entry as Made, Story, ever}
+use Rattle.definitions.specs.Story.{Entry as Made, Story}
 use Rattle.definitions.specs.World.{clock, was_moment, long_of, error_of, entered}
 use Rattle.definitions.specs.Control.{grants_entry, controls, known_facts, now_of, now_with, message_time, took_time}
 use Rattle.definitions.specs.Longest.{longest_end, longest_route}
@@ -300,7 +300,7 @@ module _ (line : Line) (s : Story) (e : Event) (t : ℕ) (one : IsLineOfOneZone 
       (λ idle. same_fronts (rw idle refl) (λ f. fronts_idle line t x s z f idle) (now_idle z x s idle))
 
 pub fronts_start : (line : Line) (t : ℕ) → controls (zone_id line) t [] ≡ true → FrontsAre line t []
-unfolding ever
+unfolding controls
 fronts_start line t c = absurd cc
 
 pub fronts_step : (line : Line) (s : Story) (e : Event) → IsLineOfOneZone line → Admitted line s e → Timed s → Timed (effects line s e ∷ s) → ((t : ℕ) → Sound line t s)

@@ -1,65 +1,23 @@
 -- Where the head of a train is on its journey, and how far its authorities reach.
-use Rattle.std.proofs.Common.{◌≡◌, ℕ, ◌+◌, ◌-◌, ◌<◌, ◌≤◌, List, [], ◌∷◌, ◌++◌, length, take, Option, true, false, refl, sym, ◌∙◌, ap, arith}
-use Rattle.std.proofs.lemmas.Bool.Decides.{nat_tests}
+use Rattle.std.proofs.Common.{◌≡◌, ℕ, ◌+◌, ◌-◌, ◌<◌, ◌≤◌, List, ◌++◌, length, take, true, refl, sym, ◌∙◌, ap, arith}
 use Rattle.std.proofs.lemmas.List.{take-append-le}
-use Rattle.std.specs.Prelude.{nat_eq, nat_le}
 use Rattle.track_points.specs.declared.ids.DirSeg.{DirSeg}
 use Rattle.track_points.specs.Points.{total, place_of_last}
 use Rattle.track_points.proofs.Some.{by_test}
-use Rattle.definitions.specs.declared.message.Msg.{Msg}
-use Rattle.definitions.specs.declared.message.Msg.TheVariants as msg
 use Rattle.definitions.specs.Track.{Line, seg_len}
 use Rattle.definitions.specs.Rules.{is_line}
 use Rattle.definitions.specs.Premises.{head_offset}
 use Rattle.definitions.specs.Story.{Story}
-use Rattle.definitions.specs.World.{first_entry, entered, head, long_of, limit_place, last_number, journey}
+use Rattle.definitions.specs.World.{entered, head, long_of, journey}
 use Rattle.definitions.specs.Control.{controls}
 use Rattle.definitions.specs.Longest.{longest_end, longest_route}
 use Rattle.plain_state.specs.Plain.{zone_id}
-use Rattle.motion_laws.proofs.Issued.{AllIn, AllIssued}
 use Rattle.motion_laws.proofs.Motion.{place}
 use Rattle.way_laws.proofs.Cut.{cut_some, cut_total, cut_front, cut_end}
 use Rattle.way_laws.proofs.Cuts.{before_last}
 use Rattle.journey_laws.proofs.Journey.{journey_ends}
-use Rattle.sound_laws.proofs.Sound.{end_in, most_in, most_issued, most_to, step_begin, AuthTrue, Controlled, Sound}
+use Rattle.sound_laws.proofs.Sound.{step_begin, Controlled, Sound}
 use Rattle.sound_laws.proofs.One_route.{OneRoute, one_route}
-
--- A train that has come on is controlled: it has taken an authority.
-
-module _ (line : Line) (t : ℕ) (first : Option DirSeg) (at : Story) where
-  end_none : (m : Msg) → AuthTrue line t at m → end_in line first t 0 m ≡ 0
-  end_none (msg.Auth u number mark path) h = by_test (nat_eq u.0 t)
-      (λ y. let p = (h y).positive in let n : nat_le number 0 ≡ false = grind (arith, nat_tests) in rw (y, n) refl)
-      (λ n. rw n refl)
-  end_none (msg.Report u time mark offset integrity) h = refl
-  end_none (msg.Time time u) h = refl
-  end_none (msg.EntryAsk u time long error speed equipped step) h = refl
-  end_none (msg.Ask u time steps to) h = refl
-  end_none (msg.Answer u time number taken) h = refl
-
-  in_none : (issued : List (ℕ × Msg)) → AllIn (AuthTrue line t at) issued → most_in line first t 0 issued ≡ 0
-  unfolding AllIn most_in
-  in_none [] a = refl
-  in_none (x ∷ issued) a = let e = end_none x.1 a.0 in let i = in_none issued a.1 in omega (arith, e, i)
-
-  most_none : (s : Story) → AllIssued (AuthTrue line t at) s → most_issued line first t 0 s ≡ 0
-  unfolding AllIssued most_issued
-  most_none [] a = refl
-  most_none (e ∷ s) a = let i = in_none e.issued a.0 in let r = most_none s a.1 in omega (arith, i, r)
-
-pub on_controls : (line : Line) (t : ℕ) (s : Story) → Sound line t s → entered t s ≡ true → controls (zone_id line) t s ≡ true
-on_controls line t s sound on = by_test (controls (zone_id line) t s) (λ y. y)
-    (λ n.
-    let a = sound.authorized in
-    let last = a.unknown n in
-    let most = a.last_most in
-    let zero : last_number t s ≡ 0 = omega (arith, last, most) in
-    let l = a.limit on in
-    let e : limit_place line t s ≡ 0 = l.number ∙ ap (λ (k : ℕ). most_to line t s k) zero ∙ most_none line t (first_entry t s) s s a.auths in
-    let h = l.ahead in
-    let b = sound.motion.born on in
-    let some = a.long_some (sound.motion.declared on) in
-    absurd (omega (arith, e, h, b, some)))
 
 -- A train that its zone controls.
 module _ (line : Line) (t : ℕ) (s : Story) (valid : is_line line ≡ true) (sound : Sound line t s) (controlled : controls (zone_id line) t s ≡ true) where
@@ -70,7 +28,7 @@ module _ (line : Line) (t : ℕ) (s : Story) (valid : is_line line ≡ true) (so
   place_on on = rw on refl
 
   one : OneRoute line t s (longest_route line t s) (longest_end line t s)
-  one = one_route line t s valid sound.motion sound.authorized controlled
+  one = one_route line t s sound.authorized controlled sound.motion
 
   -- a journey has a step, and reaches to the head
   pub journey_some : 0 < length (journey line t s)

@@ -11,3 +11,6 @@ pub mod Front_moves
 pub mod Front_entry
 pub mod Front_step
 pub mod Front_ends
+pub mod Unshrunk
+pub mod Route_goes_on
+pub mod Way_begins

@@ -14,9 +14,14 @@ use Rattle.track_points.proofs.Some.{by_test}
 use Rattle.definitions.specs.declared.item.End.{End}
 use Rattle.definitions.specs.declared.item.Item.{Item}
 use Rattle.definitions.specs.declared.item.Item.TheVariants.{Zone, Segment, Joint, Portal, Buffer, Silent}
-use Rattle.definitions.specs.Track.{Line, ranged, end_eq, flip, uses, is_portal, joins, exit_of, entrance_of, follows, begins_at_portal, next_step, track_from, is_segment, has_zone, has_segment}
+use Rattle.definitions.specs.Track.{Line, ranged, end_eq, flip, uses, is_portal, joins, exit_of, entrance_of, follows, begins_at_portal, next_step, track_from, is_segment, has_zone, has_segment, seg_len}
 use Rattle.definitions.specs.Rules.{rule_of, builds, is_line}
+use Rattle.definitions.proofs.Unbroken.{unbroken}
 use Rattle.definitions.specs.Premises.{on_line}
+use Rattle.definitions.specs.Story.{Story}
+use Rattle.definitions.specs.World.{first_entry, head, journey}
+use Rattle.way_laws.proofs.Cut.{cut_few}
+use Rattle.journey_laws.proofs.Journey.{journey_track}
 use Rattle.way_laws.proofs.Lines.{both, builds_step, line_builds, used_once, joined_uses, portal_on_line}
 use Rattle.way_laws.proofs.Track.{some_same, follows_next, next_follows, track_on_line}
 
@@ -185,14 +190,10 @@ code_one a b h =
 
 -- numbers of segments are below 2^15
 segment_small : (before : List Item) (s z len : ℕ) → rule_of before (Segment s z len) ≡ 0 → s ≤ 32767
-unfolding rule_of
-segment_small before s z len h = by_test (has_segment before s)
-    (λ y. absurd (let e : 2 ≡ 0 = rw y at h in cc))
-    (λ a. by_test (has_zone before z)
-    (λ b. by_test (ranged 1 32767 s && ranged 1 10000000 len)
-    (λ r. let k = both (nat_le 1 s) (nat_le s 32767) (both (ranged 1 32767 s) (ranged 1 10000000 len) r).0 in let le = k.1 in grind (arith, nat_tests))
-    (λ r. absurd (let e : 4 ≡ 0 = rw (a, b, r) at h in cc)))
-    (λ n. absurd (let e : 3 ≡ 0 = rw (a, n) at h in cc)))
+segment_small before s z len h =
+    let w = (unbroken before (Segment s z len) h).within in
+    let r : (ranged 1 32767 s && ranged 1 10000000 len) ≡ true = grind arith in
+    let k = both (nat_le 1 s) (nat_le s 32767) (both (ranged 1 32767 s) (ranged 1 10000000 len) r).0 in let le = k.1 in grind (arith, nat_tests)
 
 item_small : (before : List Item) (i : Item) (s : ℕ) → rule_of before i ≡ 0 → is_segment s i ≡ true → s ≤ 32767
 item_small before (Segment r z len) s h k = subst (λ (n : ℕ). n ≤ 32767) (eqb-true r s k) (segment_small before r z len h)
@@ -260,3 +261,11 @@ module _ (line : Line) (st : DirSeg) (valid : is_line line ≡ true) (portal : b
       let l = length-le_from_distinct_below (map code steps) 65536 (once 0 n (Some st) refl) (codes_small line steps valid on) in
       let e : length (map code steps) ≡ length steps = length-map steps code in
       omega (arith, l, e)
+
+-- so the journey has no more steps
+pub journey_few : (line : Line) (t : ℕ) (st : DirSeg) (s : Story) → is_line line ≡ true → begins_at_portal line st ≡ true → first_entry t s ≡ Some st → length (journey line t s) ≤ 65536
+journey_few line t st s valid portal first =
+    let e = ap (λ (xs : List DirSeg). length xs) (journey_track line t st valid (portal_on_line line st valid portal) s first) in
+    let b = cut_few (seg_len line) (track_from line (Some st) (head t s + 1)) (head t s) in
+    let o = track_once line st valid portal (head t s + 1) in
+    omega (arith, e, b, o)

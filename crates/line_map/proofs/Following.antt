@@ -13,6 +13,7 @@ use Rattle.definitions.specs.declared.item.Item.{Item}
 use Rattle.definitions.specs.declared.item.Item.TheVariants.{Zone, Segment, Joint, Portal, Buffer, Silent}
 use Rattle.definitions.specs.Track.{Line, end_eq, uses, exit_of, behind_joint, first_of, next_step}
 use Rattle.definitions.specs.Rules.{rule_of, builds, is_line}
+use Rattle.definitions.proofs.Unbroken.{unbroken}
 use Rattle.line_map.specs.Next.{after_item, after_end, after_of, AfterIs}
 use Rattle.line_map.proofs.Valid.{by_test, absurd, and_left, and_right, or_left, zero_test}
 
@@ -41,29 +42,16 @@ neither_end : (x y : Bool) → x ≡ false → y ≡ false → (x || y) ≡ fals
 neither_end x y h k = grind arith
 
 -- an item that breaks no rule uses no end that is used
-joint_first : (before : List Item) (a b : End) → rule_of before (Joint a b) ≡ 0 → list_any (uses a) before ≡ false
-unfolding rule_of
-joint_first before a b r = grind arith
-
-joint_second : (before : List Item) (a b : End) → rule_of before (Joint a b) ≡ 0 → list_any (uses b) before ≡ false
-unfolding rule_of
-joint_second before a b r = grind arith
-
-portal_end : (before : List Item) (a : End) → rule_of before (Portal a) ≡ 0 → list_any (uses a) before ≡ false
-unfolding rule_of
-portal_end before a r = grind arith
-
-buffer_end : (before : List Item) (a : End) → rule_of before (Buffer a) ≡ 0 → list_any (uses a) before ≡ false
-unfolding rule_of
-buffer_end before a r = grind arith
+joint_free : (before : List Item) (a b : End) → rule_of before (Joint a b) ≡ 0 → (list_any (uses a) before ≡ false) × (list_any (uses b) before ≡ false)
+joint_free before a b r = let f = (unbroken before (Joint a b) r).free in (grind arith, grind arith)
 
 used_once : (before : List Item) (i : Item) (e : End) → rule_of before i ≡ 0 → list_any (uses e) before ≡ true → uses e i ≡ false
 used_once before (Zone z) e r used = refl
 used_once before (Segment s z len) e r used = refl
 used_once before (Joint a b) e r used =
-    neither_end (end_eq a e) (end_eq b e) (free_end before a e used (joint_first before a b r)) (free_end before b e used (joint_second before a b r))
-used_once before (Portal a) e r used = free_end before a e used (portal_end before a r)
-used_once before (Buffer a) e r used = free_end before a e used (buffer_end before a r)
+    neither_end (end_eq a e) (end_eq b e) (free_end before a e used (joint_free before a b r).0) (free_end before b e used (joint_free before a b r).1)
+used_once before (Portal a) e r used = free_end before a e used (unbroken before (Portal a) r).free
+used_once before (Buffer a) e r used = free_end before a e used (unbroken before (Buffer a) r).free
 used_once before (Silent ms) e r used = refl
 
 -- an item that does not use an end joins it with none

@@ -13,6 +13,7 @@ use Rattle.track_points.specs.declared.ids.DirSeg.{DirSeg}
 use Rattle.definitions.specs.declared.item.End.{End}
 use Rattle.definitions.specs.Track.{Line, ranged, end_eq, is_portal, entrance_of, begins_at_portal, is_zone, is_segment, has_zone, has_segment, length_in, zone_in, seg_len, zone_of}
 use Rattle.definitions.specs.Rules.{rule_of, builds, is_line}
+use Rattle.definitions.proofs.Unbroken.{unbroken}
 use Rattle.line_map.specs.Next.{FitsIds}
 
 pub by_test : {P : Type 0} (b : Bool) → (b ≡ true → P) → (b ≡ false → P) → P
@@ -58,13 +59,12 @@ fine line (Buffer a) = has_segment line a.segment
 fine line (Silent ms) = ranged 1 3600000 ms
 
 rule_fine : (line : Line) (i : Item) → rule_of line i ≡ 0 → fine line i ≡ true
-unfolding rule_of
-rule_fine line (Zone z) r = grind arith
-rule_fine line (Segment s z len) r = grind arith
-rule_fine line (Joint a b) r = grind arith
-rule_fine line (Portal a) r = grind arith
-rule_fine line (Buffer a) r = grind arith
-rule_fine line (Silent ms) r = grind arith
+rule_fine line (Zone z) r = let w = (unbroken line (Zone z) r).within in grind arith
+rule_fine line (Segment s z len) r = let u = unbroken line (Segment s z len) r in let w = u.within in let k = u.known in grind arith
+rule_fine line (Joint a b) r = let k = (unbroken line (Joint a b) r).known in grind arith
+rule_fine line (Portal a) r = let k = (unbroken line (Portal a) r).known in grind arith
+rule_fine line (Buffer a) r = let k = (unbroken line (Buffer a) r).known in grind arith
+rule_fine line (Silent ms) r = let w = (unbroken line (Silent ms) r).within in grind arith
 
 zone_grown : (line : Line) (x : Item) (z : ℕ) → has_zone line z ≡ true → has_zone (line ++ x ∷ []) z ≡ true
 zone_grown line x z h = rw (list_any-append (is_zone z) line (x ∷ [])) (or_left _ _ h)

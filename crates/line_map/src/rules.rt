@@ -2,7 +2,7 @@
 ghost use Rattle.std.specs.Prelude.{◌≡◌};
 ghost use Rattle.std.specs.List.{list_any};
 ghost use Rattle.definitions.specs.Track.{ranged, flip};
-ghost use Rattle.definitions.specs.Rules.{zone_rule, segment_rule, end_rule, pair_rule, joint_rule, silent_rule, rule_of, is_open, joins_within, is_bare, finish_rule};
+ghost use Rattle.definitions.specs.Rules.{rule_of, is_open, joins_within, is_bare, finish_rule};
 
 use crate::items::{
     declares_a_zone, declares_segment, declares_silence, declares_zone, is_used, opposite,
@@ -17,8 +17,9 @@ fn in_range(lo: u64, hi: u64, n: u64) -> bool
     lo <= n && n <= hi
 }
 
+#[tactic(auto, unfolding(definitions::specs::Rules::rule_of, definitions::specs::Numbers::least))]
 fn zone_breaks(items: &[Item], z: u64) -> u8
-    ensures { result ≡ zone_rule items.now z }
+    ensures { result ≡ rule_of items.now (Item.Zone z) }
 {
     if declares_zone(items, z) {
         2
@@ -29,8 +30,9 @@ fn zone_breaks(items: &[Item], z: u64) -> u8
     }
 }
 
+#[tactic(auto, unfolding(definitions::specs::Rules::rule_of, definitions::specs::Numbers::least))]
 fn segment_breaks(items: &[Item], s: u64, z: u64, len: u64) -> u8
-    ensures { result ≡ segment_rule items.now s z len }
+    ensures { result ≡ rule_of items.now (Item.Segment s z len) }
 {
     if declares_segment(items, s) {
         2
@@ -45,22 +47,27 @@ fn segment_breaks(items: &[Item], s: u64, z: u64, len: u64) -> u8
     }
 }
 
-fn end_breaks(items: &[Item], e: End, otherwise: u8) -> u8
-    ensures { result ≡ end_rule items.now e otherwise }
+#[tactic(auto, unfolding(definitions::specs::Rules::rule_of, definitions::specs::Numbers::least))]
+fn end_breaks(items: &[Item], e: End) -> u8
+    ensures portal { result ≡ rule_of items.now (Item.Portal e) }
+    ensures buffer { result ≡ rule_of items.now (Item.Buffer e) }
 {
     if !declares_segment(items, e.segment) {
         3
     } else if is_used(items, e) {
         6
     } else {
-        otherwise
+        0
     }
 }
 
-fn pair_breaks(items: &[Item], a: End, b: End) -> u8
-    ensures { result ≡ pair_rule items.now a b }
+#[tactic(auto, unfolding(definitions::specs::Rules::rule_of, definitions::specs::Numbers::least))]
+fn joint_breaks(items: &[Item], a: End, b: End) -> u8
+    ensures { result ≡ rule_of items.now (Item.Joint a b) }
 {
-    if is_used(items, a) || same_end(a, b) {
+    if !(declares_segment(items, a.segment) && declares_segment(items, b.segment)) {
+        3
+    } else if is_used(items, a) || is_used(items, b) || same_end(a, b) {
         6
     } else if a.segment == b.segment {
         8
@@ -69,18 +76,9 @@ fn pair_breaks(items: &[Item], a: End, b: End) -> u8
     }
 }
 
-fn joint_breaks(items: &[Item], a: End, b: End) -> u8
-    ensures { result ≡ joint_rule items.now a b }
-{
-    if !declares_segment(items, a.segment) {
-        3
-    } else {
-        end_breaks(items, b, pair_breaks(items, a, b))
-    }
-}
-
+#[tactic(auto, unfolding(definitions::specs::Rules::rule_of, definitions::specs::Numbers::least))]
 fn silent_breaks(items: &[Item], ms: u64) -> u8
-    ensures { result ≡ silent_rule items.now ms }
+    ensures { result ≡ rule_of items.now (Item.Silent ms) }
 {
     if declares_silence(items) {
         2
@@ -92,7 +90,6 @@ fn silent_breaks(items: &[Item], ms: u64) -> u8
 }
 
 /// The least rule that an item breaks behind these items, 0 for none.
-#[tactic(auto, unfolding(definitions::specs::Rules::rule_of))]
 pub fn breaks(items: &[Item], item: &Item) -> u8
     ensures { result ≡ rule_of items.now item.now }
 {
@@ -100,8 +97,8 @@ pub fn breaks(items: &[Item], item: &Item) -> u8
         Item::Zone(z) => zone_breaks(items, z),
         Item::Segment(s, z, len) => segment_breaks(items, s, z, len),
         Item::Joint(a, b) => joint_breaks(items, a, b),
-        Item::Portal(a) => end_breaks(items, a, 0),
-        Item::Buffer(a) => end_breaks(items, a, 0),
+        Item::Portal(a) => end_breaks(items, a),
+        Item::Buffer(a) => end_breaks(items, a),
         Item::Silent(ms) => silent_breaks(items, ms),
     }
 }
@@ -171,7 +168,7 @@ fn has_a_bare_portal(items: &[Item], scanned: &[Item]) -> bool
 }
 
 /// The least rule that the finished line breaks, 0 for none.
-#[tactic(auto, unfolding(definitions::specs::Rules::finish_rule))]
+#[tactic(auto, unfolding(definitions::specs::Rules::finish_rule, definitions::specs::Numbers::least))]
 pub fn finish_breaks(items: &[Item]) -> u8
     ensures { result ≡ finish_rule items.now }
 {

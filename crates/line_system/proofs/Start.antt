@@ -1,23 +1,25 @@
 -- The zone of a line of one zone, and what a system keeps at its start.
-use Rattle.std.proofs.Common.{◌≡◌, ℕ, zero, suc, ◌<◌, ◌≤◌, Bool, true, ◌&&◌, [], ◌∷◌, ap, arith, nat_eq, count_by, Some, None}
+use Rattle.std.proofs.Common.{◌≡◌, ℕ, zero, suc, ◌<◌, ◌≤◌, Bool, true, ◌&&◌, [], ◌∷◌, refl, ap, arith, nat_eq, count_by, Some, None}
 use Rattle.std.specs.List.{list_any}
 use Rattle.std.proofs.lemmas.Bool.Decides.{nat_tests}
 use Rattle.track_points.specs.declared.ids.ZoneId.{ZoneId}
 use Rattle.track_points.proofs.Some.{by_test}
 use Rattle.definitions.specs.declared.item.Item.TheVariants.{Zone, Segment, Joint, Portal, Buffer, Silent}
 use Rattle.definitions.specs.Track.{Line, has_zone}
+use Rattle.definitions.specs.Numbers.{least}
 use Rattle.definitions.specs.Rules.{is_any_zone, is_line, builds, finish_rule}
 use Rattle.definitions.specs.Safe.{Kept}
 use Rattle.definitions.specs.Steps.{story_of, taken_most}
-use Rattle.plain_state.specs.Plain.{Plain, zone_id, plain_start}
+use Rattle.plain_state.specs.Plain.{zone_id, world_start, zone_start, plain_start}
 use Rattle.zone_state.specs.Zone.{ZoneKept, IsZoneOn}
 use Rattle.world_sim.specs.World.{AllOn}
-use Rattle.line_system.specs.State.{Taken, taken_start}
+use Rattle.line_system.specs.State.{Taken, Parts, taken_start}
 use Rattle.line_map.specs.Order.{count_below, IsZoneAt}
 use Rattle.line_map.proofs.Valid.{zone_ok}
 use Rattle.sound_laws.proofs.One_zone.{zone_only}
 use Rattle.link_laws.proofs.Linking.{linked_start}
 use Rattle.line_system.specs.Kept.{IsKept}
+use Rattle.line_system.proofs.Parts.{same_linked}
 
 pub zone_at : (line : Line) (k : ℕ) (z : ZoneId) → IsZoneAt line k (Some z) → count_by is_any_zone line ≤ 1 → z.0 ≡ zone_id line
 zone_at line k z at one = zone_only line z.0 one at.0
@@ -45,7 +47,7 @@ right : (a b : Bool) → (a && b) ≡ true → b ≡ true
 right a b h = grind arith
 
 some_zone : (line : Line) → is_line line ≡ true → list_any is_any_zone line ≡ true
-unfolding finish_rule
+unfolding finish_rule least
 some_zone line v =
     let f = right (builds [] line) (nat_eq (finish_rule line) 0) v in
     by_test (list_any is_any_zone line)
@@ -60,12 +62,15 @@ no_zone_at line v at =
     let some = counted (has_zone line) (zone_id line) 17 h most in
     omega arith
 
-pub starts : (line : Line) (p : Plain) (t : Taken) (zone : ZoneKept) → is_line line ≡ true → count_by is_any_zone line ≤ 1 → p ≡ plain_start (zone_id line) → t ≡ taken_start → IsZoneOn line zone → IsKept line [] p t zone
+abbrev pub parts_start : Line → Parts
+parts_start line = record { world = world_start; zone = zone_start (zone_id line); to_zone = []; to_world = [] }
+
+pub starts : (line : Line) (k : Parts) (t : Taken) (zone : ZoneKept) → is_line line ≡ true → count_by is_any_zone line ≤ 1 → k ≡ parts_start line → t ≡ taken_start → IsZoneOn line zone → IsKept line [] k t zone
 unfolding Kept story_of taken_most AllOn
-starts line p t zone v one h none on = record {
+starts line k t zone v one h none on = record {
   one_zone = record { valid = v; one = one };
   kept = tt;
-  linked = rw h (linked_start line);
+  linked = rw h (same_linked line [] (parts_start line) plain_start (record { valid = v; one = one }) refl refl refl refl (linked_start line));
   taken_zone = ap (λ (x : Taken). x.by_zone) none;
   taken_world = ap (λ (x : Taken). x.by_world) none;
   on_line = on;

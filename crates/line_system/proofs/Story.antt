@@ -13,8 +13,8 @@ use Rattle.definitions.specs.Story.{Story, sent}
 use Rattle.definitions.specs.Safe.{IsLineOfOneZone, Kept}
 use Rattle.definitions.specs.Trace.{went, stands_for}
 use Rattle.definitions.specs.Premises.{built, too_many, premise_of, admits}
-use Rattle.definitions.specs.Steps.{effects, story_of, takes_from, deliveries}
-use Rattle.plain_state.specs.Plain.{Plain, zone_id, link, plain_effect, plain_next}
+use Rattle.definitions.specs.Steps.{effects, story_of, taken_most, takes_from, deliveries}
+use Rattle.plain_state.specs.Plain.{Plain, zone_id, plain_effect}
 use Rattle.plain_state.specs.Admits.{plain_built, plain_too_many, plain_premise}
 use Rattle.world_sim.specs.World.{StepFits, IsWorldOn}
 use Rattle.zone_state.specs.Zone.{ZoneKept, IsZoneOn}
@@ -22,32 +22,27 @@ use Rattle.sound_laws.proofs.Sound.{Sound}
 use Rattle.step_laws.proofs.Every.{sound_story}
 use Rattle.link_laws.proofs.Linked.{built_is, too_many_is, premise_is, effect_is, linked_next}
 use Rattle.line_system.specs.History.{History}
-use Rattle.line_system.specs.State.{Taken, taken_behind, TakenInRange, EventInRange, due_of}
+use Rattle.line_system.specs.State.{Taken, Parts, plain_of, parts_next, taken_behind, TakenInRange, EventInRange, due_of}
 use Rattle.line_system.specs.Kept.{IsKept}
 use Rattle.line_system.proofs.Bounds.{clock_most, in_range}
+use Rattle.line_system.proofs.Parts.{own_id, from_world, from_zone, parts_linked}
 use Rattle.line_system.proofs.Ordinals.{taken_next}
 use Rattle.link_laws.proofs.One_zone.{zone_positive}
 use Rattle.plain_state.specs.Relation.{Linked}
-use Rattle.link_laws.proofs.Zone_values.{link_is}
 use Rattle.link_laws.proofs.Deliveries.{deliveries_zone, deliveries_world}
 use Rattle.sound_laws.proofs.One_zone.{zone_only}
-use Rattle.document_laws.proofs.Delivered.{both}
 
 sounds : (line : Line) → IsLineOfOneZone line → (t : ℕ) → (ts : List Event) → Kept line ts → Sound line t (story_of line ts)
 sounds line l t ts h = sound_story line t ts l h
 
-pub built_plain : (line : Line) (es : List Event) (p : Plain) (u : Taken) (z : ZoneKept) (e : Event) → IsKept line es p u z → plain_built line p e ≡ built line (story_of line es) e
-built_plain line es p u z e k = sym (built_is line es p e k.one_zone k.kept k.linked (sounds line k.one_zone))
+pub built_plain : (line : Line) (es : List Event) (p : Parts) (u : Taken) (z : ZoneKept) (e : Event) → IsKept line es p u z → plain_built line (plain_of p) e ≡ built line (story_of line es) e
+built_plain line es p u z e k = sym (built_is line es (plain_of p) e k.one_zone k.kept k.linked (sounds line k.one_zone))
 
-pub too_many_plain : (line : Line) (es : List Event) (p : Plain) (u : Taken) (z : ZoneKept) (e : Event) → IsKept line es p u z → plain_too_many p e ≡ too_many (story_of line es) e
-too_many_plain line es p u z e k = sym (too_many_is line es p e k.one_zone k.kept k.linked (sounds line k.one_zone))
+pub too_many_plain : (line : Line) (es : List Event) (p : Parts) (u : Taken) (z : ZoneKept) (e : Event) → IsKept line es p u z → plain_too_many (plain_of p) e ≡ too_many (story_of line es) e
+too_many_plain line es p u z e k = sym (too_many_is line es (plain_of p) e k.one_zone k.kept k.linked (sounds line k.one_zone))
 
-pub premise_plain : (line : Line) (es : List Event) (p : Plain) (u : Taken) (z : ZoneKept) (e : Event) → IsKept line es p u z → built line (story_of line es) e ≡ true → plain_premise p e ≡ premise_of line (story_of line es) e
-premise_plain line es p u z e k b = sym (premise_is line es p e k.one_zone k.kept k.linked (sounds line k.one_zone) b)
-
-not_true : (b : Bool) → not b ≡ true → b ≡ false
-not_true true h = absurd cc
-not_true false h = refl
+pub premise_plain : (line : Line) (es : List Event) (p : Parts) (u : Taken) (z : ZoneKept) (e : Event) → IsKept line es p u z → built line (story_of line es) e ≡ true → plain_premise (plain_of p) e ≡ premise_of line (story_of line es) e
+premise_plain line es p u z e k b = sym (premise_is line es (plain_of p) e k.one_zone k.kept k.linked (sounds line k.one_zone) b)
 
 all_three : (a b c : Bool) → a ≡ true → b ≡ false → c ≡ true → (a && (not b && c)) ≡ true
 all_three a b c h k l = grind arith
@@ -57,7 +52,7 @@ is_admitted : (line : Line) (es : List Event) (e : Event) → built line (story_
 is_admitted line es e b m h = all_three (built line (story_of line es) e) (too_many (story_of line es) e) (nat_eq (premise_of line (story_of line es) e) 0) b m (rw h refl)
 
 -- an event that goes, over a history and its state
-pub record Goes (h : History) (line : Line) (xs : List Event) (p : Plain) (u : Taken) (z : ZoneKept) (e : Event) : Type 0 where
+pub record Goes (h : History) (line : Line) (xs : List Event) (p : Parts) (u : Taken) (z : ZoneKept) (e : Event) : Type 0 where
   pub view : record { line = line; events = reverse xs } ≡ h
   pub keeps : IsKept line (reverse xs) p u z
   pub few : length xs < 100000000
@@ -88,22 +83,19 @@ message_in_range line s from to k None sound h = tt
 message_in_range line s from to k (Some m) sound h = in_range line s from to k m sound h
 
 -- the message that an event takes has its fields in their ranges
-event_in_range : (line : Line) (s : Story) (p : Plain) (e : Event) → IsLineOfOneZone line → Linked line s p → ((t : ℕ) → Sound line t s) → built line s e ≡ true → EventInRange p e
-event_in_range line s p (Take to from number) l k sound h =
-    let a = both (not (nat_eq to from)) (is_actor line to && is_actor line from) h in
-    let b = both (is_actor line to) (is_actor line from) a.1 in
-    let same = link_is line s p l k from to (not_true (nat_eq to from) a.0) b.0 b.1 in
-    message_in_range line s from to (number - 1) (slice_get (link p from to) (number - 1)) sound (ap (λ (ms : List Msg). slice_get ms (number - 1)) (sym same))
-event_in_range line s p (Train t long error speed kind) l k sound h = tt
-event_in_range line s p (Step ms moves) l k sound h = tt
-event_in_range line s p (Entry t step) l k sound h = tt
-event_in_range line s p (Enter t) l k sound h = tt
-event_in_range line s p (Ask t z steps to) l k sound h = tt
-event_in_range line s p (Report t z step offset whole) l k sound h = tt
-event_in_range line s p (Time z t) l k sound h = tt
-event_in_range line s p (Deliver to) l k sound h = tt
+event_in_range : (line : Line) (s : Story) (p : Plain) (e : Event) → Linked line s p → ((t : ℕ) → Sound line t s) → built line s e ≡ true → EventInRange p e
+event_in_range line s p (Take to from number) k sound h =
+    message_in_range line s from to (number - 1) (slice_get (p.links from to) (number - 1)) sound (ap (λ (ms : List Msg). slice_get ms (number - 1)) (sym (k.links from to h)))
+event_in_range line s p (Train t long error speed kind) k sound h = tt
+event_in_range line s p (Step ms moves) k sound h = tt
+event_in_range line s p (Entry t step) k sound h = tt
+event_in_range line s p (Enter t) k sound h = tt
+event_in_range line s p (Ask t z steps to) k sound h = tt
+event_in_range line s p (Report t z step offset whole) k sound h = tt
+event_in_range line s p (Time z t) k sound h = tt
+event_in_range line s p (Deliver to) k sound h = tt
 
-module _ (h : History) (line : Line) (xs : List Event) (p : Plain) (u : Taken) (z : ZoneKept) (e : Event) (g : Goes h line xs p u z e) where
+module _ (h : History) (line : Line) (xs : List Event) (p : Parts) (u : Taken) (z : ZoneKept) (e : Event) (g : Goes h line xs p u z e) where
   few_now : length (reverse xs) < 100000000
   few_now = rw (length-reverse xs) g.few
 
@@ -119,33 +111,34 @@ module _ (h : History) (line : Line) (xs : List Event) (p : Plain) (u : Taken) (
   admitted_now : admits line (story_of line (reverse xs)) e ≡ true
   admitted_now = is_admitted line (reverse xs) e built_now within_now kept_now
 
-  pub go_kept : (ys : List Event) (q : Plain) (v : Taken) (y : ZoneKept) → ys ≡ xs ++ e ∷ [] → q ≡ plain_next line p e → v ≡ taken_behind e u → IsZoneOn line y → IsWorldOn line q.world → IsKept line (reverse ys) q v y
+  pub go_kept : (ys : List Event) (q : Parts) (v : Taken) (y : ZoneKept) → ys ≡ xs ++ e ∷ [] → q ≡ parts_next line p e → v ≡ taken_behind e u → IsZoneOn line y → IsWorldOn line q.world → IsKept line (reverse ys) q v y
   unfolding Kept story_of
   go_kept ys q v y more n t on world =
       let ordinals = taken_next line (story_of line (reverse xs)) e u g.keeps.one_zone (zone_positive line g.keeps.one_zone) built_now g.keeps.taken_zone g.keeps.taken_world in
       rw (more, reverse_next xs e) (record {
         one_zone = g.keeps.one_zone;
         kept = (admitted_now, g.keeps.kept);
-        linked = rw n (linked_next line (reverse xs) p e g.keeps.one_zone few_now g.keeps.kept admitted_now g.keeps.linked (sounds line g.keeps.one_zone));
+        linked = rw n (parts_linked line (effects line (story_of line (reverse xs)) e ∷ story_of line (reverse xs)) g.keeps.one_zone p (own_id line (story_of line (reverse xs)) p g.keeps.one_zone g.keeps.linked) (story_of line (reverse xs)) e built_now
+            (linked_next line (reverse xs) (plain_of p) e g.keeps.one_zone few_now g.keeps.kept admitted_now g.keeps.linked (sounds line g.keeps.one_zone)));
         taken_zone = ap (λ (x : Taken). x.by_zone) t ∙ ordinals.0;
         taken_world = ap (λ (x : Taken). x.by_world) t ∙ ordinals.1;
         on_line = on;
         world_on = world;
       })
 
-  pub go_lines : (plain_effect line p e).lines ≡ (effects h.line (story_of h.line h.events) e).lines
+  pub go_lines : (plain_effect line (plain_of p) e).lines ≡ (effects h.line (story_of h.line h.events) e).lines
   go_lines =
-      let same = effect_is line (reverse xs) p e g.keeps.one_zone few_now g.keeps.kept admitted_now g.keeps.linked (sounds line g.keeps.one_zone) in
+      let same = effect_is line (reverse xs) (plain_of p) e g.keeps.one_zone few_now g.keeps.kept admitted_now g.keeps.linked (sounds line g.keeps.one_zone) in
       sym same.1 ∙ ap (λ (y : History). (effects y.line (story_of y.line y.events) e).lines) g.view
 
-  pub go_premise : plain_premise p e ≡ 0
-  go_premise = sym (premise_is line (reverse xs) p e g.keeps.one_zone g.keeps.kept g.keeps.linked (sounds line g.keeps.one_zone) built_now) ∙ kept_now
+  pub go_premise : plain_premise (plain_of p) e ≡ 0
+  go_premise = sym (premise_is line (reverse xs) (plain_of p) e g.keeps.one_zone g.keeps.kept g.keeps.linked (sounds line g.keeps.one_zone) built_now) ∙ kept_now
 
-  pub go_built : plain_built line p e ≡ true
-  go_built = sym (built_is line (reverse xs) p e g.keeps.one_zone g.keeps.kept g.keeps.linked (sounds line g.keeps.one_zone)) ∙ built_now
+  pub go_built : plain_built line (plain_of p) e ≡ true
+  go_built = sym (built_is line (reverse xs) (plain_of p) e g.keeps.one_zone g.keeps.kept g.keeps.linked (sounds line g.keeps.one_zone)) ∙ built_now
 
-  pub go_room : plain_too_many p e ≡ false
-  go_room = sym (too_many_is line (reverse xs) p e g.keeps.one_zone g.keeps.kept g.keeps.linked (sounds line g.keeps.one_zone)) ∙ within_now
+  pub go_room : plain_too_many (plain_of p) e ≡ false
+  go_room = sym (too_many_is line (reverse xs) (plain_of p) e g.keeps.one_zone g.keeps.kept g.keeps.linked (sounds line g.keeps.one_zone)) ∙ within_now
 
   pub go_clock : p.world.clock ≤ 60000 * length xs
   go_clock =
@@ -155,10 +148,10 @@ module _ (h : History) (line : Line) (xs : List Event) (p : Plain) (u : Taken) (
       omega arith
 
   pub go_fits : StepFits p.world e
-  go_fits = step_fits line p e (length xs) go_built go_room go_clock g.few
+  go_fits = step_fits line (plain_of p) e (length xs) go_built go_room go_clock g.few
 
-  pub go_range : EventInRange p e
-  go_range = event_in_range line (story_of line (reverse xs)) p e g.keeps.one_zone g.keeps.linked (λ t. sound_story line t (reverse xs) g.keeps.one_zone g.keeps.kept) built_now
+  pub go_range : EventInRange (plain_of p) e
+  go_range = event_in_range line (story_of line (reverse xs)) (plain_of p) e g.keeps.linked (λ t. sound_story line t (reverse xs) g.keeps.one_zone g.keeps.kept) built_now
 
 pub go_longer : (h : History) (line : Line) (xs ys : List Event) (e : Event) → record { line = line; events = reverse xs } ≡ h → ys ≡ xs ++ e ∷ []
     → as_history line (reverse ys) ≡ as_history h.line (e ∷ h.events)
@@ -170,29 +163,30 @@ go_longer h line xs ys e view more =
 zone_actor : (line : Line) (to : ℕ) → is_actor line (suc to) ≡ true → has_zone line (suc to) ≡ true
 zone_actor line to act = ap (λ (b : Bool). b || has_zone line (suc to)) (sym (eqb-suc-zero to)) ∙ act
 
-due_other : (p : Plain) (u : Taken) (to : ℕ) → due_of p u (suc to) ≡ (0, u.by_zone, length p.to_zone)
+due_other : (p : Parts) (u : Taken) (to : ℕ) → due_of p u (suc to) ≡ (0, u.by_zone, length p.to_zone)
 due_other p u to = ap (λ (b : Bool). if b then (p.zone.id, u.by_world, length p.to_world) else (0, u.by_zone, length p.to_zone)) (eqb-suc-zero to)
 
-due_at : (line : Line) (es : List Event) (p : Plain) (u : Taken) (z : ZoneKept) (to : ℕ) → IsKept line es p u z → is_actor line to ≡ true
+due_at : (line : Line) (es : List Event) (p : Parts) (u : Taken) (z : ZoneKept) (to : ℕ) → IsKept line es p u z → is_actor line to ≡ true
     → deliveries line (story_of line es) to ≡ takes_from to (due_of p u to).0 ((due_of p u to).1 + 1) ((due_of p u to).2 - (due_of p u to).1)
 due_at line es p u z zero k act =
-    let same = deliveries_world line k.one_zone (story_of line es) p k.linked in
     let ordinal = k.taken_world in
-    let zone = k.linked.zone in
-    same
+    let zone = own_id line (story_of line es) p k.one_zone k.linked in
+    deliveries_world line k.one_zone (story_of line es) (plain_of p) k.linked
+    ∙ (ap (λ (ms : List Msg). takes_from 0 (zone_id line) (taken_most 0 (zone_id line) (story_of line es) + 1) (length ms - taken_most 0 (zone_id line) (story_of line es))) (from_zone line k.one_zone p zone)
     ∙ (ap (λ (n : ℕ). takes_from 0 (zone_id line) (n + 1) (length p.to_world - n)) (sym ordinal)
-    ∙ ap (λ (f : ℕ). takes_from 0 f (u.by_world + 1) (length p.to_world - u.by_world)) (sym zone))
+    ∙ ap (λ (f : ℕ). takes_from 0 f (u.by_world + 1) (length p.to_world - u.by_world)) (sym zone)))
 due_at line es p u z (suc to) k act =
     let there : suc to ≡ zone_id line = zone_only line (suc to) k.one_zone.one (zone_actor line to act) in
-    let same = deliveries_zone line k.one_zone (story_of line es) p k.linked in
     let ordinal = k.taken_zone in
+    let zone = own_id line (story_of line es) p k.one_zone k.linked in
     ap (λ (a : ℕ). deliveries line (story_of line es) a) there
-    ∙ (same
+    ∙ (deliveries_zone line k.one_zone (story_of line es) (plain_of p) k.linked
+    ∙ (ap (λ (ms : List Msg). takes_from (zone_id line) 0 (taken_most (zone_id line) 0 (story_of line es) + 1) (length ms - taken_most (zone_id line) 0 (story_of line es))) (from_world line k.one_zone p zone)
     ∙ (ap (λ (n : ℕ). takes_from (zone_id line) 0 (n + 1) (length p.to_zone - n)) (sym ordinal)
     ∙ (ap (λ (a : ℕ). takes_from a 0 (u.by_zone + 1) (length p.to_zone - u.by_zone)) (sym there)
-    ∙ ap (λ (d : ℕ × ℕ × ℕ). takes_from (suc to) d.0 (d.1 + 1) (d.2 - d.1)) (sym (due_other p u to)))))
+    ∙ ap (λ (d : ℕ × ℕ × ℕ). takes_from (suc to) d.0 (d.1 + 1) (d.2 - d.1)) (sym (due_other p u to))))))
 
-pub due_is : (h : History) (line : Line) (xs : List Event) (p : Plain) (u : Taken) (z : ZoneKept) (to from taken sent : ℕ) → record { line = line; events = reverse xs } ≡ h → IsKept line (reverse xs) p u z → is_actor h.line to ≡ true
+pub due_is : (h : History) (line : Line) (xs : List Event) (p : Parts) (u : Taken) (z : ZoneKept) (to from taken sent : ℕ) → record { line = line; events = reverse xs } ≡ h → IsKept line (reverse xs) p u z → is_actor h.line to ≡ true
     → (from, taken, sent) ≡ due_of p u to → deliveries h.line (story_of h.line h.events) to ≡ takes_from to from (taken + 1) (sent - taken)
 due_is h line xs p u z to from taken sent view k act is =
     let here = subst (λ (y : History). is_actor y.line to ≡ true) (sym view) act in

@@ -1,14 +1,55 @@
 -- The program's state as the plain state, and which messages were taken.
-use Rattle.std.specs.Prelude.{ℕ, ◌-◌, length, if◌then◌else◌, nat_eq, max, Option, Some, None, slice_get, ⊤}
+use Rattle.std.specs.Prelude.{ℕ, zero, suc, ◌-◌, List, [], ◌++◌, length, if◌then◌else◌, nat_eq, max, Option, Some, None, slice_get, ⊤}
 use Rattle.definitions.specs.declared.event.Event.{Event}
 use Rattle.definitions.specs.declared.event.Event.TheVariants.{Take}
 use Rattle.definitions.specs.declared.message.Msg.{Msg}
-use Rattle.plain_state.specs.Plain.{Plain, link}
+use Rattle.definitions.specs.Track.{Line}
+use Rattle.definitions.specs.Story.{to_actor}
+use Rattle.definitions.specs.Steps.{Effect}
+use Rattle.plain_state.specs.World.{PlainWorld, world_take_effect, world_take_next, world_event_effect, world_event_next}
+use Rattle.plain_state.specs.Zone.{PlainZone, zone_take_effect, zone_take_next}
+use Rattle.plain_state.specs.Plain.{Plain}
 use Rattle.zone_state.specs.Zone.{plain_zone, InRange}
 use Rattle.line_system.specs.declared.state.State.{State}
 
+-- what the program keeps of a line of one zone
+pub record Parts : Type 0 where
+  pub world : PlainWorld
+  pub zone : PlainZone
+  pub to_zone : List Msg  -- the link from the world to the zone
+  pub to_world : List Msg
+
+abbrev pub parts : State → Parts
+parts s = record { world = s.world; zone = plain_zone s.zone; to_zone = s.to_zone.items; to_world = s.to_world.items }
+
+abbrev pub links_of : Parts → ℕ → ℕ → List Msg
+links_of k from to =
+    if nat_eq from 0 then (if nat_eq to k.zone.id then k.to_zone else [])
+    else if nat_eq from k.zone.id then (if nat_eq to 0 then k.to_world else [])
+    else []
+
+-- the plain state that this is: its one zone stands for each zone of the line
+abbrev pub plain_of : Parts → Plain
+plain_of k = record { world = k.world; zones = λ z. k.zone; links = links_of k }
+
 abbrev pub plain : State → Plain
-plain s = record { world = s.world; zone = plain_zone s.zone; to_zone = s.to_zone.items; to_world = s.to_world.items }
+plain s = plain_of (parts s)
+
+-- a step of the world, and one of the zone
+abbrev pub world_moved : Parts → PlainWorld → Effect → Parts
+world_moved k w x = record k { world = w; to_zone = k.to_zone ++ to_actor k.zone.id x.issued }
+
+abbrev pub zone_moved : Parts → PlainZone → Effect → Parts
+zone_moved k z x = record k { zone = z; to_world = k.to_world ++ to_actor 0 x.issued }
+
+abbrev pub parts_taken : Line → Parts → ℕ → ℕ → Option Msg → Parts
+parts_taken line k to from None = k
+parts_taken line k zero from (Some m) = world_moved k (world_take_next line k.world from m) (world_take_effect line k.world from m)
+parts_taken line k (suc z) from (Some m) = zone_moved k (zone_take_next line k.zone from m) (zone_take_effect line k.zone from m)
+
+abbrev pub parts_next : Line → Parts → Event → Parts
+parts_next line k (Take to from number) = parts_taken line k to from (slice_get (links_of k from to) (number - 1))
+parts_next line k e = world_moved k (world_event_next line k.world e) (world_event_effect line k.world e)
 
 -- the greatest ordinals that the zone and the world took
 pub record Taken : Type 0 where
@@ -37,9 +78,9 @@ TakenInRange None = ⊤
 
 -- the message of a take has its fields in their ranges
 abbrev pub EventInRange : Plain → Event → Type 0
-EventInRange p (Take to from number) = TakenInRange (slice_get (link p from to) (number - 1))
+EventInRange p (Take to from number) = TakenInRange (slice_get (p.links from to) (number - 1))
 EventInRange p _ = ⊤
 
 -- the sender of the messages to an actor, the greatest ordinal of them that it took, and how many were sent
-abbrev pub due_of : Plain → Taken → ℕ → ℕ × ℕ × ℕ
-due_of p t to = if nat_eq to 0 then (p.zone.id, t.by_world, length p.to_world) else (0, t.by_zone, length p.to_zone)
+abbrev pub due_of : Parts → Taken → ℕ → ℕ × ℕ × ℕ
+due_of k t to = if nat_eq to 0 then (k.zone.id, t.by_world, length k.to_world) else (0, t.by_zone, length k.to_zone)

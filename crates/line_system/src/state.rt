@@ -7,11 +7,11 @@ ghost use Rattle.definitions.specs.Story.{to_actor};
 ghost use Rattle.definitions.specs.Steps.{nothing};
 ghost use Rattle.plain_state.specs.World.{find_train, world_event_effect, world_event_next, world_take_effect, world_take_next};
 ghost use Rattle.plain_state.specs.Zone.{zone_take_effect, zone_take_next};
-ghost use Rattle.plain_state.specs.Plain.{link, plain_start, by_world, by_zone, taken_effect, taken_next, plain_effect, plain_next};
+ghost use Rattle.plain_state.specs.Plain.{world_start, zone_start, taken_effect, plain_effect};
 ghost use Rattle.plain_state.specs.Admits.{plain_built, plain_too_many, plain_takes, plain_premise, is_known, world_premise};
 ghost use Rattle.world_sim.specs.World.{StepFits, IsBuilt, IsWorldOn};
 ghost use Rattle.zone_state.specs.Zone.{IsZoneOn, InRange};
-ghost use Rattle.line_system.specs.State.{plain, taken, taken_start, taken_with, taken_behind, TakenInRange, EventInRange, due_of};
+ghost use Rattle.line_system.specs.State.{plain, parts, world_moved, zone_moved, parts_taken, parts_next, taken, taken_start, taken_with, taken_behind, TakenInRange, EventInRange, due_of};
 
 use definitions::event::Event;
 use definitions::message::Msg;
@@ -107,7 +107,7 @@ pub struct State {
 impl State {
     /// The state before the first event.
     pub fn new(alloc: Global, line: &Line, zone: ZoneId) -> Result<State, AllocError>
-        ensures start { IfOk result (λ s. plain s ≡ plain_start zone.0) }
+        ensures start { IfOk result (λ s. parts s ≡ record { world = world_start; zone = zone_start zone.0; to_zone = []; to_world = [] }) }
         ensures taken { IfOk result (λ s. taken s ≡ taken_start) }
         ensures on_line { IfOk result (λ s. IsZoneOn line.now s.zone) }
     {
@@ -123,7 +123,7 @@ impl State {
 
     /// The messages that went out on the link from an actor to another.
     fn link(&self, from: u8, to: u8) -> &[Msg]
-        ensures { result.now ≡ link (plain self.now) from to }
+        ensures { result.now ≡ (plain self.now).links from to }
     {
         if from == 0 {
             if to == self.zone.id() {
@@ -223,8 +223,8 @@ impl State {
         requires fits { StepFits self.old.world event.now }
         requires built { IsBuilt event.now }
         requires kept { world_premise self.old.world event.now ≡ 0 }
-        ensures gives { OnOk result (outs.new ≡ world_event_effect line.now (plain self.old).world event.now) }
-        ensures next { OnOk result (plain self.new ≡ by_world (plain self.old) (world_event_next line.now (plain self.old).world event.now) (world_event_effect line.now (plain self.old).world event.now)) }
+        ensures gives { OnOk result (outs.new ≡ world_event_effect line.now (parts self.old).world event.now) }
+        ensures next { OnOk result (parts self.new ≡ world_moved (parts self.old) (world_event_next line.now (parts self.old).world event.now) (world_event_effect line.now (parts self.old).world event.now)) }
         ensures same { OnOk result (self.new.zone ≡ self.old.zone) }
         ensures taken { OnOk result (taken self.new ≡ taken self.old) }
         ensures world_on { OnOk result (IsWorldOn line.now self.new.world) }
@@ -244,8 +244,8 @@ impl State {
     ) -> Result<(), AllocError>
         requires empty { outs.old ≡ nothing }
         requires world_on { IsWorldOn line.now self.old.world }
-        ensures gives { OnOk result (outs.new ≡ world_take_effect line.now (plain self.old).world from message.now) }
-        ensures next { OnOk result (plain self.new ≡ by_world (plain self.old) (world_take_next line.now (plain self.old).world from message.now) (world_take_effect line.now (plain self.old).world from message.now)) }
+        ensures gives { OnOk result (outs.new ≡ world_take_effect line.now (parts self.old).world from message.now) }
+        ensures next { OnOk result (parts self.new ≡ world_moved (parts self.old) (world_take_next line.now (parts self.old).world from message.now) (world_take_effect line.now (parts self.old).world from message.now)) }
         ensures same { OnOk result (self.new.zone ≡ self.old.zone) }
         ensures taken { OnOk result (taken self.new ≡ record { by_zone = self.old.taken_by_zone; by_world = max number self.old.taken_by_world }) }
         ensures world_on { OnOk result (IsWorldOn line.now self.new.world) }
@@ -267,8 +267,8 @@ impl State {
         requires empty { outs.old ≡ nothing }
         requires on_line { IsZoneOn line.now self.old.zone }
         requires range { InRange message.now }
-        ensures gives { OnOk result (outs.new ≡ zone_take_effect line.now (plain self.old).zone from message.now) }
-        ensures next { OnOk result (plain self.new ≡ by_zone (plain self.old) (zone_take_next line.now (plain self.old).zone from message.now) (zone_take_effect line.now (plain self.old).zone from message.now)) }
+        ensures gives { OnOk result (outs.new ≡ zone_take_effect line.now (parts self.old).zone from message.now) }
+        ensures next { OnOk result (parts self.new ≡ zone_moved (parts self.old) (zone_take_next line.now (parts self.old).zone from message.now) (zone_take_effect line.now (parts self.old).zone from message.now)) }
         ensures on_line { OnOk result (IsZoneOn line.now self.new.zone) }
         ensures taken { OnOk result (taken self.new ≡ record { by_zone = max number self.old.taken_by_zone; by_world = self.old.taken_by_world }) }
         ensures same { OnOk result (self.new.world ≡ self.old.world) }
@@ -291,10 +291,10 @@ impl State {
         requires empty { outs.old ≡ nothing }
         requires on_line { IsZoneOn line.now self.old.zone }
         requires world_on { IsWorldOn line.now self.old.world }
-        requires range { TakenInRange (slice_get (link (plain self.old) from to) (number - 1)) }
-        requires there { nat_lt 0 number && nat_le number (length (link (plain self.old) from to)) ≡ true }
-        ensures gives { OnOk result (outs.new ≡ taken_effect line.now (plain self.old) to from (slice_get (link (plain self.old) from to) (number - 1))) }
-        ensures next { OnOk result (plain self.new ≡ taken_next line.now (plain self.old) to from (slice_get (link (plain self.old) from to) (number - 1))) }
+        requires range { TakenInRange (slice_get ((plain self.old).links from to) (number - 1)) }
+        requires there { nat_lt 0 number && nat_le number (length ((plain self.old).links from to)) ≡ true }
+        ensures gives { OnOk result (outs.new ≡ taken_effect line.now (plain self.old) to from (slice_get ((plain self.old).links from to) (number - 1))) }
+        ensures next { OnOk result (parts self.new ≡ parts_taken line.now (parts self.old) to from (slice_get ((plain self.old).links from to) (number - 1))) }
         ensures taken { OnOk result (taken self.new ≡ taken_with to number (taken self.old)) }
         ensures on_line { OnOk result (IsZoneOn line.now self.new.zone) }
         ensures world_on { OnOk result (IsWorldOn line.now self.new.world) }
@@ -321,7 +321,7 @@ impl State {
         requires kept { plain_premise (plain self.old) event.now ≡ 0 }
         requires range { EventInRange (plain self.old) event.now }
         ensures gives { OnOk result (outs.new ≡ plain_effect line.now (plain self.old) event.now) }
-        ensures next { OnOk result (plain self.new ≡ plain_next line.now (plain self.old) event.now) }
+        ensures next { OnOk result (parts self.new ≡ parts_next line.now (parts self.old) event.now) }
         ensures taken { OnOk result (taken self.new ≡ taken_behind event.now (taken self.old)) }
         ensures on_line { OnOk result (IsZoneOn line.now self.new.zone) }
         ensures world_on { OnOk result (IsWorldOn line.now self.new.world) }
@@ -334,7 +334,7 @@ impl State {
 
     /// The sender of the messages to an actor of the line, the greatest ordinal of them that it took, and how many were sent.
     pub fn due(&self, to: u8) -> (u8, usize, usize)
-        ensures { result ≡ due_of (plain self.now) (taken self.now) to }
+        ensures { result ≡ due_of (parts self.now) (taken self.now) to }
     {
         if to == 0 {
             (

@@ -42,14 +42,14 @@ pub struct System {
 impl Model for System {
     ghost use Rattle.std.specs.Prelude.{◌≡◌, reverse};
     ghost use Rattle.line_system.specs.History.{History};
-    ghost use Rattle.line_system.specs.State.{plain, taken};
+    ghost use Rattle.line_system.specs.State.{parts, taken};
     ghost use Rattle.line_system.specs.Kept.{IsKept};
 
     ghost Value = { History };
 
     ghost view = { λ s. record { line = s.line; events = reverse s.events.items } };
 
-    ghost invariant = { λ s. IsKept s.line (reverse s.events.items) (plain s.state) (taken s.state) s.state.zone };
+    ghost invariant = { λ s. IsKept s.line (reverse s.events.items) (parts s.state) (taken s.state) s.state.zone };
 }
 
 /// What the system answers to an event.
@@ -98,7 +98,6 @@ impl System {
     }
 
     /// Whether an event names what is declared, and declares what is not, in a form that is built.
-    #[tactic(auto, using(crate::proofs::Story::built_plain))]
     fn is_built(&self, event: &Event) -> bool
         ensures { result ≡ built self.now.line (story_of self.now.line self.now.events) event.now }
     {

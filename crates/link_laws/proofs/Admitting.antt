@@ -12,21 +12,20 @@ use Rattle.envelope.specs.Fronts.{farthest_move}
 use Rattle.definitions.specs.declared.event.Event.{Event}
 use Rattle.definitions.specs.declared.event.Event.TheVariants.{Train, Entry, Enter, Ask, Step, Report, Time, Take, Deliver}
 use Rattle.definitions.specs.declared.message.Msg.{Msg}
-use Rattle.definitions.specs.Track.{Line, ranged, has_zone, begins_at_portal, last_step, is_actor}
+use Rattle.definitions.specs.Track.{Line, ranged, has_zone, begins_at_portal, last_step}
+use Rattle.definitions.specs.Numbers.{least}
 use Rattle.definitions.specs.Premises.{on_line, known_train, ascending, built, too_many, off_by, head_offset, reports_rightly, can_move, moves_rightly, may_move, stops_rightly, same_portal, enters_rightly, takes_rightly, premise_of}
-use Rattle.definitions.specs.Story.{Story, sent}
+use Rattle.definitions.specs.Story.{Story}
 use Rattle.definitions.specs.World.{error_of, entered, head, journey, limit_place, HeldPath, entry_authority}
 use Rattle.definitions.specs.Steps.{sender_of}
 use Rattle.definitions.specs.Safe.{IsLineOfOneZone}
 use Rattle.plain_state.specs.declared.Head.{Head}
 use Rattle.plain_state.specs.World.{find_train, authority_found, error_found}
-use Rattle.plain_state.specs.Plain.{Plain, link}
+use Rattle.plain_state.specs.Plain.{Plain}
 use Rattle.plain_state.specs.Admits.{is_known, plain_built, plain_too_many, reports_head, world_reports, can_move_found, world_moves, may_move_found, world_stops, world_enters, plain_takes, plain_premise}
 use Rattle.plain_state.specs.Relation.{head_of, Linked}
-use Rattle.motion_laws.proofs.Notions.{both, not_true}
 use Rattle.sound_laws.proofs.Sound.{Sound}
 use Rattle.link_laws.proofs.Values.{declared_is, entry_is, authority_is, head_is, on_is, room_is, error_is, speed_is}
-use Rattle.link_laws.proofs.Zone_values.{link_is}
 
 sender_some : (a : Option HeldPath) → is_some (sender_of a) ≡ is_some a
 sender_some None = refl
@@ -129,14 +128,8 @@ module _ (line : Line) (s : Story) (p : Plain) (k : Linked line s p) (sound : (t
   enters_now (Deliver to) = refl
 
   module _ (l : IsLineOfOneZone line) where
-    pub link_now : (to from number : ℕ) → built line s (Take to from number) ≡ true → link p from to ≡ sent from to s
-    link_now to from number h =
-        let a = both (not (nat_eq to from)) (is_actor line to && is_actor line from) h in
-        let b = both (is_actor line to) (is_actor line from) a.1 in
-        link_is line s p l k from to (not_true (nat_eq to from) a.0) b.0 b.1
-
     takes_now : (e : Event) → built line s e ≡ true → takes_rightly s e ≡ plain_takes p e
-    takes_now (Take to from number) h = ap (λ (xs : List Msg). nat_lt 0 number && nat_le number (length xs)) (sym (link_now to from number h))
+    takes_now (Take to from number) h = ap (λ (xs : List Msg). nat_lt 0 number && nat_le number (length xs)) (sym (k.links from to h))
     takes_now (Train u long error speed kind) h = refl
     takes_now (Entry u step) h = refl
     takes_now (Enter u) h = refl
@@ -147,6 +140,7 @@ module _ (line : Line) (s : Story) (p : Plain) (k : Linked line s p) (sound : (t
     takes_now (Deliver to) h = refl
 
     pub premise_now : (e : Event) → built line s e ≡ true → premise_of line s e ≡ plain_premise p e
+    unfolding least
     premise_now e h =
         ap (λ (b : Bool). premise_by b (moves_rightly s e) (stops_rightly line s e) (enters_rightly s e) (takes_rightly s e)) (reports_now e)
         ∙ (ap (λ (b : Bool). premise_by (world_reports p.world e) b (stops_rightly line s e) (enters_rightly s e) (takes_rightly s e)) (moves_now e)

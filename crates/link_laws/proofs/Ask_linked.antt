@@ -1,23 +1,23 @@
 -- The plain state follows an ask that the zone takes.
-use Rattle.std.proofs.Common.{◌≡◌, ℕ, suc, ◌+◌, ◌-◌, ◌*◌, ◌<◌, ◌≤◌, List, ◌∷◌, length, take, Option, Some, true, false, ◌&&◌, refl, sym, ◌∙◌, ap, subst, arith}
+use Rattle.std.proofs.Common.{◌≡◌, ℕ, suc, ◌+◌, ◌-◌, ◌*◌, ◌<◌, ◌≤◌, List, ◌∷◌, ◌++◌, length, take, drop, Option, Some, true, false, ◌&&◌, refl, sym, ◌∙◌, ap, subst, arith}
 use Rattle.std.proofs.lemmas.Bool.Decides.{nat_tests}
 use Rattle.std.proofs.lemmas.Bool.{eqb-true}
-use Rattle.std.proofs.lemmas.List.{length-append}
+use Rattle.std.proofs.lemmas.List.{length-append, length-take}
+use Rattle.std.proofs.Math.Seq.{drop-append_seam}
 use Rattle.std.proofs.Math.Bool.{and-false}
-use Rattle.std.specs.Prelude.{nat_eq, nat_le, nat_lt}
+use Rattle.std.specs.Prelude.{nat_eq, nat_lt}
 use Rattle.arrayvec.specs.ArrayVec.{ArrayVec}
 use Rattle.track_points.specs.declared.ids.DirSeg.{DirSeg}
 use Rattle.track_points.specs.declared.ids.TrainId.{TrainId}
-use Rattle.track_points.specs.declared.path.Path.{Path}
-use Rattle.track_points.specs.Points.{total, end_place, steps_to, no_segment_twice}
+use Rattle.track_points.specs.Points.{total, end_place, steps_to}
 use Rattle.track_points.proofs.Some.{by_test}
 use Rattle.definitions.specs.declared.message.Msg.{Msg}
 use Rattle.definitions.specs.declared.message.Msg.TheVariants as msg
 use Rattle.definitions.specs.declared.outcome.Outcome.{Outcome}
-use Rattle.definitions.specs.Track.{Line, seg_len, track_from}
-use Rattle.definitions.specs.Ways.{PlainWay, chained, path_in_range, way_between}
+use Rattle.definitions.specs.Track.{Line, seg_len}
+use Rattle.definitions.specs.Ways.{PlainWay, way_between}
 use Rattle.definitions.specs.Story.{Entry as Made, Story, greatest_in, greatest_issued}
-use Rattle.definitions.specs.World.{Authority, Facts, first_entry, auth_number}
+use Rattle.definitions.specs.World.{Authority, Facts, route, authority_end, journey, auth_number}
 use Rattle.definitions.specs.Control.{grants_entry, controls, known_facts, now_of, now_with, last_issued}
 use Rattle.definitions.specs.Longest.{counted, longest_end, longest_route}
 use Rattle.definitions.specs.Fronts.{report_time, silent_by}
@@ -28,31 +28,31 @@ use Rattle.plain_state.specs.ZoneTrain.{ZoneTrain}
 use Rattle.plain_state.specs.Zone.{find_way, change_way, lengthened, grown_train}
 use Rattle.plain_state.specs.Plain.{Plain, zone_id}
 use Rattle.plain_state.specs.Relation.{zone_train, Linked}
-use Rattle.motion_laws.proofs.Notions.{both}
 use Rattle.motion_laws.proofs.Issued.{AllIn, AllIssued}
 use Rattle.way_laws.proofs.Reach.{reach_granted}
 use Rattle.way_laws.proofs.Grown.{grown_end}
-use Rattle.way_laws.proofs.Track.{track_front}
 use Rattle.way_laws.proofs.Between_places.{between_some, between_ends, between_end, between_within}
-use Rattle.way_laws.proofs.Between_moved.{between_before}
-use Rattle.sound_laws.proofs.Sound.{track, mark_place, track_end, most_to, path_fits, AuthIs, Sound}
+use Rattle.motion_laws.proofs.Controls.{controls_same}
+use Rattle.journey_laws.proofs.Journey.{journey_still}
+use Rattle.sound_laws.proofs.Sound.{end_read, AuthIs, Sound}
+use Rattle.sound_laws.proofs.One_route.{path_parts, route_reaches, last_end, longest_on}
+use Rattle.front_laws.proofs.Route_goes_on.{route_goes_on}
 use Rattle.front_laws.proofs.Front_moves.{known_same}
 use Rattle.front_laws.proofs.Front_numbers.{grown_to}
 use Rattle.front_laws.proofs.Front_ends.{ends_grown}
-use Rattle.authority_laws.proofs.Unshrunk.{counted_unanswered}
+use Rattle.front_laws.proofs.Unshrunk.{counted_unanswered}
 use Rattle.link_laws.proofs.World_trains.{mapped}
 use Rattle.link_laws.proofs.Zone_trains.{way_change, way_other, ids_change, distinct_change}
 use Rattle.link_laws.proofs.Zone_values.{Grown}
-use Rattle.link_laws.proofs.Way_of.{way_of}
+use Rattle.link_laws.proofs.Way_of.{way_of, way_before}
 use Rattle.link_laws.proofs.Way_marks.{way_number}
 use Rattle.link_laws.proofs.Heeded.{way_steps}
 use Rattle.link_laws.proofs.Kept_train.{kept_train}
-use Rattle.link_laws.proofs.Longer.{kept_lengthened, route_reaches, route_kept, route_steps}
-use Rattle.link_laws.proofs.Unissued.{NoAuth, end_same, controls_same}
-use Rattle.link_laws.proofs.Zone_idle.{first_same}
-use Rattle.link_laws.proofs.Zone_moves.{zone_made, ZoneMoves}
+use Rattle.link_laws.proofs.Longer.{kept_lengthened, route_kept, route_steps}
+use Rattle.link_laws.proofs.Unissued.{NoAuth, end_same}
+use Rattle.link_laws.proofs.Zone_moves.{zone_made, zone_heads, ZoneMoves}
 use Rattle.link_laws.proofs.Zone_behind.{grown_is, now_is, acts, controlled_still, report_unused, steps_same, zone_silent}
-use Rattle.link_laws.proofs.Quiet_linked.{known_still}
+use Rattle.motion_laws.proofs.Known_trains.{known_still}
 
 module _ (line : Line) (z number : ℕ) (u : TrainId) (time : ℕ) (steps : ArrayVec DirSeg) (to : ℕ) (s : Story) (one : IsLineOfOneZone line) (zone : suc z ≡ zone_id line) (sound : (t : ℕ) → Sound line t s)
     (lines : List Outcome) where
@@ -94,8 +94,8 @@ module _ (line : Line) (z number : ℕ) (u : TrainId) (time : ℕ) (steps : Arra
     abbrev x : Made
     x = zone_made z number ask_message given
 
-    abbrev route : List DirSeg
-    route = track line t (x ∷ s) (a.mark + length a.path.steps.items)
+    abbrev given_route : List DirSeg
+    given_route = route (journey line t (x ∷ s)) a
 
     order : lo - f.long < longest_end line u.0 s
     order =
@@ -152,17 +152,24 @@ module _ (line : Line) (z number : ℕ) (u : TrainId) (time : ℕ) (steps : Arra
       given_is = after.authorized.auths.0.0 (let its : nat_eq u.0 u.0 ≡ true = grind (arith, nat_tests) in its)
 
       -- the longest authority ends where it does
-      given_end : longest_end line u.0 (zone_made z number ask_message given ∷ s) ≡ track_end line u.0 (zone_made z number ask_message given ∷ s) a
-      given_end = (after.authorized.controlled c2).end ∙ (ap (λ (n : ℕ). most_to line t (x ∷ s) n) given_last ∙ sym given_is.exact)
+      given_end : longest_end line u.0 (zone_made z number ask_message given ∷ s) ≡ authority_end (seg_len line) (journey line u.0 (zone_made z number ask_message given ∷ s)) a
+      given_end = sym (last_end line t (x ∷ s) after.authorized c2) ∙ (ap (λ (n : ℕ). end_read line t (x ∷ s) n) given_last ∙ sym given_is.exact)
 
-      first : first_entry u.0 (zone_made z number ask_message given ∷ s) ≡ first_entry u.0 s
-      first = first_same line t x s (sound t) c
+      mark_begins : total (seg_len line) (take w.mark (journey line u.0 (zone_made z number ask_message given ∷ s))) ≡ total (seg_len line) (take w.mark (longest_route line u.0 s))
+      mark_begins = ap (λ (xs : List DirSeg). total len (take w.mark xs)) (journey_still line t x s refl) ∙ ap (total len) (way_before line t s one.valid (sound t) c)
 
-      mark_begins : mark_place line u.0 (zone_made z number ask_message given ∷ s) w.mark ≡ total (seg_len line) (take w.mark (longest_route line u.0 s))
-      mark_begins =
-          let v = way_of line t s one.valid (sound t) c in
-          ap (λ (o : Option DirSeg). total len (track_from line o w.mark)) first
-          ∙ sym (ap (total len) (between_before line (first_entry t s) len (longest_route line t s) v.front (lo - f.long) (longest_end line t s) order room))
+      -- the longest route goes on to its own
+      given_goes : longest_route line u.0 s ≡ steps_to (seg_len line) (route (journey line u.0 (zone_made z number ask_message given ∷ s)) a) (longest_end line u.0 s)
+      given_goes =
+          sym (route_goes_on line t s x (sound t).motion (sound t).authorized after.authorized c c2 (zone_heads t z number ask_message given s))
+          ∙ ap (λ (xs : List DirSeg). steps_to len xs (longest_end line t s)) (longest_on line t (x ∷ s) after.authorized c2 a given_is.authority given_end)
+
+      given_steps : drop w.mark (route (journey line u.0 (zone_made z number ask_message given ∷ s)) a) ≡ a.path.steps.items
+      given_steps =
+          let before = take w.mark (journey line t (x ∷ s)) in
+          let mark = given_is.authority.mark in
+          let l : length before ≡ w.mark = let n = length-take w.mark (journey line t (x ∷ s)) in omega (arith, n, mark) in
+          ap (λ (n : ℕ). drop n (before ++ a.path.steps.items)) (sym l) ∙ drop-append_seam before a.path.steps.items
 
       given_farther : longest_end line u.0 (zone_made z number ask_message given ∷ s) ≡ longest_end line u.0 s + d
       given_farther =
@@ -180,44 +187,31 @@ module _ (line : Line) (z number : ℕ) (u : TrainId) (time : ℕ) (steps : Arra
           let v = way_of line t s one.valid (sound t) c in
           let here = acts line z number ask_message given s one zone t (sound t) after in
           let ends = ends_grown line t x s ((sound t).fronts c) (after.fronts c2) none 0 ask_message c here refl refl refl in
-          let reaches = route_reaches line t (x ∷ s) one.valid after c2 a given_is.authority given_end in
+          let reaches = route_reaches line (journey line t (x ∷ s)) a given_is.authority.fits in
+          let end_is = given_end in
           let far = given_farther in
           let rep = report_unused line (zone_id line) t x s none refl in
           let cnt = counted_unanswered line t x s (sound t).authorized.unshrunk refl in
           route_kept line t (x ∷ s) one.valid after c2 a given_is.authority given_end
-          ∙ (ap (λ (q : Facts). Some (kept_train len t q route (after.fronts c2).lo (after.fronts c2).hi (longest_end line t (x ∷ s)) (now_of (zone_id line) (x ∷ s)) (report_time line (zone_id line) t (x ∷ s)) (last_issued t (x ∷ s)) (counted line t (x ∷ s)))) (known_same (zone_id line) t x s none)
-          ∙ (ap (λ (q : ℕ). Some (kept_train len t f route q (after.fronts c2).hi (longest_end line t (x ∷ s)) (now_of (zone_id line) (x ∷ s)) (report_time line (zone_id line) t (x ∷ s)) (last_issued t (x ∷ s)) (counted line t (x ∷ s)))) ends.0
-          ∙ (ap (λ (q : ℕ). Some (kept_train len t f route lo q (longest_end line t (x ∷ s)) (now_of (zone_id line) (x ∷ s)) (report_time line (zone_id line) t (x ∷ s)) (last_issued t (x ∷ s)) (counted line t (x ∷ s)))) ends.1
-          ∙ (ap (λ (q : ℕ). Some (kept_train len t f route lo hi q (now_of (zone_id line) (x ∷ s)) (report_time line (zone_id line) t (x ∷ s)) (last_issued t (x ∷ s)) (counted line t (x ∷ s)))) far
-          ∙ (ap (λ (q : ℕ). Some (kept_train len t f route lo hi (longest_end line t s + d) q (report_time line (zone_id line) t (x ∷ s)) (last_issued t (x ∷ s)) (counted line t (x ∷ s)))) (now_is line z number ask_message given s one zone t (sound t) after)
-          ∙ (ap (λ (q : ℕ). Some (kept_train len t f route lo hi (longest_end line t s + d) (now_with (zone_id line) s ask_message) q (last_issued t (x ∷ s)) (counted line t (x ∷ s)))) rep
-          ∙ (ap (λ (q : ℕ). Some (kept_train len t f route lo hi (longest_end line t s + d) (now_with (zone_id line) s ask_message) (report_time line (zone_id line) t s) q (counted line t (x ∷ s)))) given_last
-          ∙ (ap (λ (q : ℕ). Some (kept_train len t f route lo hi (longest_end line t s + d) (now_with (zone_id line) s ask_message) (report_time line (zone_id line) t s) (last_issued t s + 1) q)) cnt
-          ∙ (ap (λ (q : ZoneTrain). Some q) (kept_lengthened line (first_entry t s) len steps.items t f (longest_route line t s) route lo hi (longest_end line t s) d (now_with (zone_id line) s ask_message) (report_time line (zone_id line) t s) (last_issued t s) (counted line t s)
-          v.front (route_front route_is) order room (omega (arith, reaches, far)) (sym given_is.authority.on_track) asked_some asked_within)
+          ∙ (ap (λ (q : Facts). Some (kept_train len t q given_route (after.fronts c2).lo (after.fronts c2).hi (longest_end line t (x ∷ s)) (now_of (zone_id line) (x ∷ s)) (report_time line (zone_id line) t (x ∷ s)) (last_issued t (x ∷ s)) (counted line t (x ∷ s)))) (known_same (zone_id line) t x s none)
+          ∙ (ap (λ (q : ℕ). Some (kept_train len t f given_route q (after.fronts c2).hi (longest_end line t (x ∷ s)) (now_of (zone_id line) (x ∷ s)) (report_time line (zone_id line) t (x ∷ s)) (last_issued t (x ∷ s)) (counted line t (x ∷ s)))) ends.0
+          ∙ (ap (λ (q : ℕ). Some (kept_train len t f given_route lo q (longest_end line t (x ∷ s)) (now_of (zone_id line) (x ∷ s)) (report_time line (zone_id line) t (x ∷ s)) (last_issued t (x ∷ s)) (counted line t (x ∷ s)))) ends.1
+          ∙ (ap (λ (q : ℕ). Some (kept_train len t f given_route lo hi q (now_of (zone_id line) (x ∷ s)) (report_time line (zone_id line) t (x ∷ s)) (last_issued t (x ∷ s)) (counted line t (x ∷ s)))) far
+          ∙ (ap (λ (q : ℕ). Some (kept_train len t f given_route lo hi (longest_end line t s + d) q (report_time line (zone_id line) t (x ∷ s)) (last_issued t (x ∷ s)) (counted line t (x ∷ s)))) (now_is line z number ask_message given s one zone t (sound t) after)
+          ∙ (ap (λ (q : ℕ). Some (kept_train len t f given_route lo hi (longest_end line t s + d) (now_with (zone_id line) s ask_message) q (last_issued t (x ∷ s)) (counted line t (x ∷ s)))) rep
+          ∙ (ap (λ (q : ℕ). Some (kept_train len t f given_route lo hi (longest_end line t s + d) (now_with (zone_id line) s ask_message) (report_time line (zone_id line) t s) q (counted line t (x ∷ s)))) given_last
+          ∙ (ap (λ (q : ℕ). Some (kept_train len t f given_route lo hi (longest_end line t s + d) (now_with (zone_id line) s ask_message) (report_time line (zone_id line) t s) (last_issued t s + 1) q)) cnt
+          ∙ (ap (λ (q : ZoneTrain). Some q) (kept_lengthened len steps.items t f (longest_route line t s) given_route lo hi (longest_end line t s) d (now_with (zone_id line) s ask_message) (report_time line (zone_id line) t s) (last_issued t s) (counted line t s)
+          given_goes order (omega (arith, reaches, far, end_is)) given_steps asked_some asked_within)
           ∙ sym (ap (λ (q : Option ZoneTrain). mapped (lengthened len steps.items d) q) (grown_is line ask_message s t one (sound t) c)))))))))))
-        where
-          route_is : route ≡ track_from line (first_entry t s) (a.mark + length a.path.steps.items)
-          route_is = ap (λ (o : Option DirSeg). track_from line o (a.mark + length a.path.steps.items)) first
-
-          route_front : route ≡ track_from line (first_entry t s) (a.mark + length a.path.steps.items) → route ≡ track_from line (first_entry t s) (length route)
-          route_front e = subst (λ (o : Option DirSeg). route ≡ track_from line o (length route)) first (track_front line (first_entry t (x ∷ s)) (a.mark + length a.path.steps.items))
 
       pub ask_steps : (p : Plain) → Linked line s p → length (steps_to (seg_len line) (longest_route line u.0 (zone_made z number ask_message given ∷ s)) (longest_end line u.0 (zone_made z number ask_message given ∷ s))) ≤ 24 * length s + 24
       ask_steps p k =
           let r = route_steps line t (x ∷ s) one.valid after c2 a given_is.authority given_end in
           let n = way_number len (longest_route line t s) (lo - f.long) (longest_end line t s) order room in
           let m = way_steps line s p one k sound t c in
-          let few = path_few a.path given_is.authority.fits in
+          let few = (path_parts line a.path given_is.authority.fits).few in
           omega (arith, r, n, m, few)
-        where
-          path_few : (q : Path) → path_fits line q ≡ true → length q.steps.items ≤ 24
-          path_few q h =
-              let b = both (chained line q.steps.items) (no_segment_twice q.steps.items && (path_in_range (seg_len line) q && nat_le (length q.steps.items) 24)) h in
-              let e = both (no_segment_twice q.steps.items) (path_in_range (seg_len line) q && nat_le (length q.steps.items) 24) b.1 in
-              let g = both (path_in_range (seg_len line) q) (nat_le (length q.steps.items) 24) e.1 in
-              let y = g.1 in
-              grind (arith, nat_tests)
 
     -- the trains behind it
     pub ask_moves : ((v : ℕ) → Sound line v (zone_made z number ask_message given ∷ s)) → (p : Plain) (ways : List ZoneTrain) → Linked line s p → Grown line s (now_with (zone_id line) s ask_message) ways
@@ -238,8 +232,8 @@ module _ (line : Line) (z number : ℕ) (u : TrainId) (time : ℕ) (steps : Arra
               (λ o.
               let none_v = and-false (nat_eq (suc z) (zone_id line)) in
               let cv = sym (controls_same (zone_id line) v x s none_v) ∙ c3 in
-              let e = end_same line v x s (other_silent v o) (sound v) (after v) cv c3 (first_same line v x s (sound v) cv) in
-              let b = steps_same line v x s one (sound v) (after v) cv c3 e in
+              let e = end_same line v x s (other_silent v o) (sound v) (after v) cv c3 (zone_heads v z number ask_message given s) in
+              let b = steps_same line v x s (sound v) (after v) cv c3 (zone_heads v z number ask_message given s) e in
               let q = way_steps line s p one k sound v cv in
               omega (arith, b, q));
         }

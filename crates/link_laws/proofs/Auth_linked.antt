@@ -27,10 +27,10 @@ use Rattle.motion_laws.proofs.Notions.{entered_same}
 use Rattle.motion_laws.proofs.Issued.{AllIn, issued_all}
 use Rattle.journey_laws.proofs.Journey.{journey_still}
 use Rattle.sound_laws.proofs.Sound.{AuthIs, AuthTrue, Sound}
-use Rattle.front_laws.proofs.Heads.{on_controls}
+use Rattle.sound_laws.proofs.One_route.{on_controls}
 use Rattle.link_laws.proofs.World_trains.{mapped, find_change, find_other, length_change}
 use Rattle.link_laws.proofs.Unissued.{NoAuth}
-use Rattle.link_laws.proofs.World_moves.{head_still, facts_still, entry_still, world_same, as_many, unasked_same, off_same, authorized_same, world_linked}
+use Rattle.link_laws.proofs.World_moves.{head_still, heads_still, facts_still, entry_still, world_same, as_many, unasked_same, off_same, authorized_same, world_linked}
 use Rattle.link_laws.proofs.Limits.{off_limit}
 use Rattle.link_laws.proofs.Head_on.{head_on}
 use Rattle.link_laws.proofs.Heeded.{new_ahead}
@@ -123,7 +123,7 @@ module _ (line : Line) (from number : ℕ) (u : TrainId) (n mark : ℕ) (path : 
       room_next : (if nat_lt (last_number t s) n then room_on (seg_len line) mark path h else (limit_place line t s - head t s))
           ≡ limit_place line t (take_made 0 from number (msg.Auth u n mark path) y ∷ s) - head t (take_made 0 from number (msg.Auth u n mark path) y ∷ s)
       room_next =
-          let c = on_controls line t s sound on in
+          let c = on_controls line t s sound.authorized on in
           let same = head_still t x s refl refl in
           by_test (nat_lt (last_number t s) n)
           (λ less.
@@ -183,6 +183,7 @@ auth_linked line from number u n mark path e y s p one k sound true_ after silen
           (λ other. find_other t u.0 (took_auth len from n mark path) p.world.trains (kept_id len from n mark path) other
           ∙ (k.trains t ∙ sym (world_same line t x s (record { facts = refl; entry = refl; off = refl; still = refl; taken = rw other refl }))));
       silent = silent;
+      heads = λ t. heads_still t x s refl refl;
       count = length_change u.0 (took_auth len from n mark path) p.world.trains ∙ (k.count ∙ sym (as_many x s refl));
       unasked = λ t. unasked_same t x s refl (k.unasked t);
       stays_off = λ t. off_same t x s refl (k.stays_off t);

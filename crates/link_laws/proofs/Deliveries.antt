@@ -1,5 +1,5 @@
 -- What a delivery stands for, by the links of the plain state: the takes of what its one sender sent and nobody took.
-use Rattle.std.proofs.Common.{◌≡◌, ℕ, zero, suc, ◌+◌, ◌-◌, ◌<◌, ◌≤◌, max, List, [], ◌∷◌, ◌++◌, length, filter, flat_map, Bool, true, false, not, refl, sym, ◌∙◌, ap, subst, arith}
+use Rattle.std.proofs.Common.{◌≡◌, ℕ, zero, suc, ◌+◌, ◌-◌, ◌<◌, ◌≤◌, List, [], ◌∷◌, ◌++◌, length, filter, flat_map, Bool, true, false, not, refl, sym, ◌∙◌, ap, subst, arith}
 use Rattle.std.proofs.lemmas.Bool.Decides.{nat_tests}
 use Rattle.std.proofs.lemmas.Bool.{and_right, or_right}
 use Rattle.std.proofs.Math.Path.{fun_ext}
@@ -9,12 +9,11 @@ use Rattle.definitions.specs.declared.event.Event.{Event}
 use Rattle.definitions.specs.declared.message.Msg.{Msg}
 use Rattle.definitions.specs.Track.{Line, is_actor, has_zone}
 use Rattle.definitions.specs.Story.{Story}
-use Rattle.definitions.specs.Steps.{effects, taken_by, taken_most, takes_from, due, sends_to, actors, deliveries}
+use Rattle.definitions.specs.Steps.{taken_most, takes_from, due, sends_to, actors, deliveries}
 use Rattle.definitions.specs.Safe.{IsLineOfOneZone}
-use Rattle.plain_state.specs.Plain.{Plain, zone_id, link}
+use Rattle.plain_state.specs.Plain.{Plain, zone_id}
 use Rattle.plain_state.specs.Relation.{Linked}
-use Rattle.motion_laws.proofs.Moves.{effect_event}
-use Rattle.link_laws.proofs.One_zone.{zone_positive, zone_most, zone_declared_there, actor_zone}
+use Rattle.link_laws.proofs.One_zone.{zone_positive, zone_most, zone_declared_there, actor_zone, link_to_zone, link_to_world}
 
 -- some numbers, one behind the other
 unfoldable range : ℕ → ℕ → List ℕ
@@ -81,53 +80,17 @@ module _ (line : Line) (one : IsLineOfOneZone line) where
 
   -- to the zone: what the world sent; to the world: what the zone sent
   pub deliveries_zone : (s : Story) (p : Plain) → Linked line s p
-      → deliveries line s (zone_id line) ≡ takes_from (zone_id line) 0 (taken_most (zone_id line) 0 s + 1) (length p.to_zone - taken_most (zone_id line) 0 s)
+      → deliveries line s (zone_id line) ≡ takes_from (zone_id line) 0 (taken_most (zone_id line) 0 s + 1) (length (p.links 0 (zone_id line)) - taken_most (zone_id line) 0 s)
   deliveries_zone s p k =
       ap (λ (f : ℕ → Bool). flat_map (due (zone_id line) s) (filter f actors)) (fun_ext to_zone)
       ∙ (ap (λ (xs : List ℕ). flat_map (due (zone_id line) s) xs) (one_actor 0 (omega arith))
       ∙ (behind_one s (zone_id line) 0
-      ∙ ap (λ (ms : List Msg). takes_from (zone_id line) 0 (taken_most (zone_id line) 0 s + 1) (length ms - taken_most (zone_id line) 0 s)) (sym k.to_zone)))
+      ∙ ap (λ (ms : List Msg). takes_from (zone_id line) 0 (taken_most (zone_id line) 0 s + 1) (length ms - taken_most (zone_id line) 0 s)) (sym (k.links 0 (zone_id line) (link_to_zone line one)))))
 
   pub deliveries_world : (s : Story) (p : Plain) → Linked line s p
-      → deliveries line s 0 ≡ takes_from 0 (zone_id line) (taken_most 0 (zone_id line) s + 1) (length p.to_world - taken_most 0 (zone_id line) s)
+      → deliveries line s 0 ≡ takes_from 0 (zone_id line) (taken_most 0 (zone_id line) s + 1) (length (p.links (zone_id line) 0) - taken_most 0 (zone_id line) s)
   deliveries_world s p k =
       ap (λ (f : ℕ → Bool). flat_map (due 0 s) (filter f actors)) (fun_ext to_world)
       ∙ (ap (λ (xs : List ℕ). flat_map (due 0 s) xs) (one_actor (zone_id line) (zone_most line one))
       ∙ (behind_one s 0 (zone_id line)
-      ∙ ap (λ (ms : List Msg). takes_from 0 (zone_id line) (taken_most 0 (zone_id line) s + 1) (length ms - taken_most 0 (zone_id line) s)) (sym k.to_world)))
-
--- the one that a link to an actor comes from
-abbrev pub sender_to : Plain → ℕ → ℕ
-sender_to p zero = p.zone.id
-sender_to p (suc z) = 0
-
--- what is due on a link of the plain state, with the greatest ordinal that was taken on it
-abbrev pub due_on : Plain → Story → ℕ → ℕ → List Event
-due_on p s to from = takes_from to from (taken_most to from s + 1) (length (link p from to) - taken_most to from s)
-
-pub deliveries_now : (line : Line) (s : Story) (p : Plain) (to : ℕ) → IsLineOfOneZone line → Linked line s p → is_actor line to ≡ true → deliveries line s to ≡ due_on p s to (sender_to p to)
-deliveries_now line s p zero one k a =
-    let z = zone_positive line one in
-    let id = k.zone in
-    let other : nat_eq p.zone.id 0 ≡ false = grind (arith, nat_tests) in
-    let itself : nat_eq p.zone.id p.zone.id ≡ true = grind (arith, nat_tests) in
-    deliveries_world line one s p k
-    ∙ (ap (λ (i : ℕ). takes_from 0 i (taken_most 0 i s + 1) (length p.to_world - taken_most 0 i s)) (sym id)
-    ∙ ap (λ (ms : List Msg). takes_from 0 p.zone.id (taken_most 0 p.zone.id s + 1) (length ms - taken_most 0 p.zone.id s)) (let l : p.to_world ≡ link p p.zone.id 0 = rw (other, itself) refl in l))
-deliveries_now line s p (suc z) one k a =
-    let is = actor_zone line z one a in
-    let id = k.zone in
-    let same : nat_eq (suc z) p.zone.id ≡ true = grind (arith, nat_tests) in
-    ap (λ (i : ℕ). deliveries line s i) is
-    ∙ (deliveries_zone line one s p k
-    ∙ (ap (λ (i : ℕ). takes_from i 0 (taken_most i 0 s + 1) (length p.to_zone - taken_most i 0 s)) (sym is)
-    ∙ ap (λ (ms : List Msg). takes_from (suc z) 0 (taken_most (suc z) 0 s + 1) (length ms - taken_most (suc z) 0 s)) (let l : p.to_zone ≡ link p 0 (suc z) = rw same refl in l)))
-
--- the greatest ordinal that was taken on a link, event by event
-pub taken_start : (to from : ℕ) → taken_most to from [] ≡ 0
-unfolding taken_most
-taken_start to from = refl
-
-pub taken_next : (line : Line) (s : Story) (e : Event) (to from : ℕ) → taken_most to from (effects line s e ∷ s) ≡ max (taken_by to from e) (taken_most to from s)
-unfolding taken_most
-taken_next line s e to from = ap (λ (x : Event). max (taken_by to from x) (taken_most to from s)) (effect_event line s e)
+      ∙ ap (λ (ms : List Msg). takes_from 0 (zone_id line) (taken_most 0 (zone_id line) s + 1) (length ms - taken_most 0 (zone_id line) s)) (sym (k.links (zone_id line) 0 (link_to_world line one)))))

@@ -6,7 +6,7 @@ use Rattle.std.proofs.Math.Bool.{and-false}
 use Rattle.std.specs.Prelude.{nat_eq, nat_le, nat_lt}
 use Rattle.track_points.specs.declared.ids.DirSeg.{DirSeg}
 use Rattle.track_points.specs.declared.ids.TrainId.{TrainId}
-use Rattle.track_points.specs.Points.{Lengths, total, end_place, place_of_last, steps_to, offset_to}
+use Rattle.track_points.specs.Points.{Lengths, total, place_of_last, steps_to, offset_to}
 use Rattle.track_points.proofs.Some.{by_test}
 use Rattle.definitions.specs.declared.message.Msg.{Msg}
 use Rattle.definitions.specs.declared.message.Msg.TheVariants as msg
@@ -14,8 +14,8 @@ use Rattle.definitions.specs.declared.outcome.Outcome.{Outcome}
 use Rattle.definitions.specs.Track.{Line, seg_len}
 use Rattle.definitions.specs.Ways.{steps_behind}
 use Rattle.definitions.specs.Story.{Entry as Made, Story, greatest_in, greatest_issued}
-use Rattle.definitions.specs.World.{Authority, Facts, first_entry, auth_number}
-use Rattle.definitions.specs.Control.{grants_entry, asker, controls, placed, known_facts, known_trains, now_of, now_with, last_issued}
+use Rattle.definitions.specs.World.{Authority, Facts, route, authority_end, journey, auth_number}
+use Rattle.definitions.specs.Control.{grants_entry, controls, known_facts, now_of, now_with, last_issued}
 use Rattle.definitions.specs.Longest.{counted, longest_end, longest_route}
 use Rattle.definitions.specs.Fronts.{report_time}
 use Rattle.definitions.specs.Steps.{Effect, entry_path, enter_or_held}
@@ -24,28 +24,25 @@ use Rattle.plain_state.specs.ZoneTrain.{ZoneTrain}
 use Rattle.plain_state.specs.Zone.{find_way, placed_way, entered_way, grown_train}
 use Rattle.plain_state.specs.Plain.{Plain, zone_id}
 use Rattle.plain_state.specs.Relation.{zone_train, Linked}
-use Rattle.motion_laws.proofs.Notions.{ever_now}
 use Rattle.motion_laws.proofs.Issued.{AllIn, AllIssued}
-use Rattle.way_laws.proofs.Track.{track_none}
-use Rattle.sound_laws.proofs.Sound.{track, mark_place, track_end, most_to, AuthIs, Sound}
+use Rattle.motion_laws.proofs.Controls.{controls_knows, controls_same, controls_now}
+use Rattle.sound_laws.proofs.Sound.{end_read, AuthIs, Sound}
+use Rattle.sound_laws.proofs.One_route.{last_end}
 use Rattle.front_laws.proofs.Entries.{counted_else}
 use Rattle.front_laws.proofs.Front_moves.{known_granted, now_acted}
 use Rattle.front_laws.proofs.Front_entry.{known_long}
 use Rattle.front_laws.proofs.Front_ends.{ends_entered}
 use Rattle.link_laws.proofs.World_trains.{mapped}
+use Rattle.motion_laws.proofs.Known_trains.{placed, known_more}
 use Rattle.link_laws.proofs.Zone_trains.{way_placed, ids_placed, distinct_placed}
 use Rattle.link_laws.proofs.Zone_values.{Grown}
 use Rattle.link_laws.proofs.Heeded.{way_steps}
 use Rattle.link_laws.proofs.Kept_train.{kept_train}
 use Rattle.link_laws.proofs.Longer.{route_kept, route_steps}
-use Rattle.link_laws.proofs.Unissued.{NoAuth, end_same, controls_same}
-use Rattle.link_laws.proofs.Zone_idle.{no_train, first_same}
-use Rattle.link_laws.proofs.Zone_moves.{zone_made, ZoneMoves}
+use Rattle.link_laws.proofs.Unissued.{NoAuth, end_same}
+use Rattle.link_laws.proofs.Zone_idle.{no_train}
+use Rattle.link_laws.proofs.Zone_moves.{zone_made, zone_heads, ZoneMoves}
 use Rattle.link_laws.proofs.Zone_behind.{steps_same, zone_silent}
-
-known_more : (z : ℕ) (x : Made) (s : Story) → grants_entry z (asker x.took) x ≡ true → known_trains z (x ∷ s) ≡ placed (asker x.took) (known_trains z s)
-unfolding known_trains
-known_more z x s h = rw h refl
 
 report_entered : (line : Line) (z t : ℕ) (x : Made) (s : Story) → grants_entry z t x ≡ true → report_time line z t (x ∷ s) ≡ now_of z (x ∷ s)
 unfolding report_time
@@ -122,25 +119,21 @@ module _ (line : Line) (z number : ℕ) (u : TrainId) (time long error speed : �
 
   module _ (after : (t : ℕ) → Sound line t (zone_made z number m entered_effect ∷ s)) where
     c2 : controls (zone_id line) u.0 (zone_made z number m entered_effect ∷ s) ≡ true
-    c2 = ever_now (λ (e : Made). grants_entry (zone_id line) t e) x s grants
+    c2 = controls_now (zone_id line) t x s grants
 
     entered_is : AuthIs line u.0 (zone_made z number m entered_effect ∷ s) 1 a
     unfolding AllIn AllIssued
     entered_is = (after t).authorized.auths.0.0 itself
 
-    entered_end : longest_end line u.0 (zone_made z number m entered_effect ∷ s) ≡ track_end line u.0 (zone_made z number m entered_effect ∷ s) a
-    entered_end = ((after t).authorized.controlled c2).end ∙ (ap (λ (n : ℕ). most_to line t (x ∷ s) n) entered_last ∙ sym entered_is.exact)
+    entered_end : longest_end line u.0 (zone_made z number m entered_effect ∷ s) ≡ authority_end (seg_len line) (journey line u.0 (zone_made z number m entered_effect ∷ s)) a
+    entered_end = sym (last_end line t (x ∷ s) (after t).authorized c2) ∙ (ap (λ (n : ℕ). end_read line t (x ∷ s) n) entered_last ∙ sym entered_is.exact)
 
     entered_at : longest_end line u.0 (zone_made z number m entered_effect ∷ s) ≡ seg_len line step.seg.0
     unfolding total place_of_last
-    entered_at =
-        let e = entered_end in
-        let b : mark_place line t (x ∷ s) 0 ≡ 0 = ap (total len) (track_none line (first_entry t (x ∷ s))) in
-        let p : end_place len (entry_path step (len step.seg.0)) ≡ len step.seg.0 = refl in
-        omega (arith, e, b, p)
+    entered_at = let e = entered_end in omega (arith, e)
 
-    entered_route : track line u.0 (zone_made z number m entered_effect ∷ s) (a.mark + length a.path.steps.items) ≡ step ∷ []
-    entered_route = sym entered_is.authority.on_track
+    entered_route : route (journey line u.0 (zone_made z number m entered_effect ∷ s)) a ≡ step ∷ []
+    entered_route = refl
 
     entered_own : zone_train line u.0 (zone_made z number m entered_effect ∷ s) ≡ Some (entered_way (now_with (zone_id line) s m) u (seg_len line step.seg.0) long error speed step)
     entered_own =
@@ -152,7 +145,7 @@ module _ (line : Line) (z number : ℕ) (u : TrainId) (time long error speed : �
         let same = known_long t (x ∷ s) (known_facts (zone_id line) t (x ∷ s)) ((after t).authorized.controlled c2).facts ∙ ap (λ (q : Facts). q.long) known in
         let n = now_of (zone_id line) (x ∷ s) in
         route_kept line t (x ∷ s) one.valid (after t) c2 a entered_is.authority entered_end
-        ∙ (ap (λ (q : Facts). Some (kept_train len t q (track line t (x ∷ s) (a.mark + length a.path.steps.items)) ((after t).fronts c2).lo ((after t).fronts c2).hi (longest_end line t (x ∷ s)) n (report_time line (zone_id line) t (x ∷ s)) (last_issued t (x ∷ s)) (counted line t (x ∷ s)))) known
+        ∙ (ap (λ (q : Facts). Some (kept_train len t q (route (journey line t (x ∷ s)) a) ((after t).fronts c2).lo ((after t).fronts c2).hi (longest_end line t (x ∷ s)) n (report_time line (zone_id line) t (x ∷ s)) (last_issued t (x ∷ s)) (counted line t (x ∷ s)))) known
         ∙ (ap (λ (q : List DirSeg). Some (kept_train len t f q ((after t).fronts c2).lo ((after t).fronts c2).hi (longest_end line t (x ∷ s)) n (report_time line (zone_id line) t (x ∷ s)) (last_issued t (x ∷ s)) (counted line t (x ∷ s)))) entered_route
         ∙ (ap (λ (q : ℕ). Some (kept_train len t f (step ∷ []) q ((after t).fronts c2).hi (longest_end line t (x ∷ s)) n (report_time line (zone_id line) t (x ∷ s)) (last_issued t (x ∷ s)) (counted line t (x ∷ s)))) ends.0
         ∙ (ap (λ (q : ℕ). Some (kept_train len t f (step ∷ []) long q (longest_end line t (x ∷ s)) n (report_time line (zone_id line) t (x ∷ s)) (last_issued t (x ∷ s)) (counted line t (x ∷ s)))) ends.1
@@ -167,12 +160,12 @@ module _ (line : Line) (z number : ℕ) (u : TrainId) (time long error speed : �
         → ZoneMoves line s (zone_made z number m entered_effect) (placed_way (entered_way (now_with (zone_id line) s m) u (seg_len line step.seg.0) long error speed step) ways)
     entered_moves p ways k g =
         let new = entered_way (now_with (zone_id line) s m) u (len step.seg.0) long error speed step in
-        let none : find_way u.0 ways ≡ None = g.found t ∙ ap (λ (y : Option ZoneTrain). mapped (grown_train (now_with (zone_id line) s m)) y) (no_train line t s (sound t) fresh) in
+        let none : find_way u.0 ways ≡ None = g.found t ∙ ap (λ (y : Option ZoneTrain). mapped (grown_train (now_with (zone_id line) s m)) y) (no_train line t s fresh) in
         record {
           found = λ v. way_placed v new ways none ∙ by_test (nat_eq u.0 v)
               (λ its. rw its (sym (subst (λ (i : ℕ). zone_train line i (x ∷ s) ≡ Some new) (eqb-true u.0 v its) entered_own)))
               (λ o. rw o (g.found v ∙ sym (zone_silent line z number m entered_effect s one zone v (sound v) (after v) (other_silent v o) (grants_other v o) refl refl)));
-          known = ids_placed new ways ∙ (ap (λ (xs : List ℕ). placed u.0 xs) g.known ∙ sym (known_more (zone_id line) x s grants));
+          known = ids_placed new ways ∙ (ap (λ (xs : List ℕ). placed u.0 xs) g.known ∙ sym (known_more (zone_id line) x s grants (sym (controls_knows (zone_id line) u.0 s) ∙ fresh)));
           distinct = distinct_placed new ways none g.distinct;
           few = entered_few;
           steps = λ v d. by_test (nat_eq u.0 v)
@@ -180,8 +173,8 @@ module _ (line : Line) (z number : ℕ) (u : TrainId) (time long error speed : �
               (let r = route_steps line t (x ∷ s) one.valid (after t) c2 a entered_is.authority entered_end in omega (arith, r)))
               (λ o.
               let c = sym (controls_same (zone_id line) v x s (grants_other v o)) ∙ d in
-              let e = end_same line v x s (other_silent v o) (sound v) (after v) c d (first_same line v x s (sound v) c) in
-              let b = steps_same line v x s one (sound v) (after v) c d e in
+              let e = end_same line v x s (other_silent v o) (sound v) (after v) c d (zone_heads v z number m entered_effect s) in
+              let b = steps_same line v x s (sound v) (after v) c d (zone_heads v z number m entered_effect s) e in
               let q = way_steps line s p one k sound v c in
               omega (arith, b, q));
         }

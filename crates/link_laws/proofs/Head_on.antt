@@ -18,10 +18,9 @@ use Rattle.definitions.specs.Longest.{longest_end, longest_route}
 use Rattle.plain_state.specs.Plain.{zone_id}
 use Rattle.way_laws.proofs.Cut.{cut_front, total_append}
 use Rattle.way_laws.proofs.Cuts.{cut_cut, cut_longer}
-use Rattle.way_laws.proofs.Lines.{portal_on_line}
 use Rattle.sound_laws.proofs.Sound.{step_begin, AuthorityIs, Sound}
-use Rattle.sound_laws.proofs.One_route.{Lies, OneRoute, one_route, end_is}
-use Rattle.front_laws.proofs.Heads.{control_of, place_on, head_place, head_on_track}
+use Rattle.sound_laws.proofs.One_route.{OneRoute, one_route}
+use Rattle.front_laws.proofs.Heads.{place_on, head_place, head_on_track}
 
 -- Places of a list.
 
@@ -63,16 +62,15 @@ on_behind j m before steps l a b =
 -- A train that its zone controls.
 module _ (line : Line) (t : ℕ) (s : Story) (valid : is_line line ≡ true) (sound : Sound line t s) (c : controls (zone_id line) t s ≡ true) where
   one : OneRoute line t s (longest_route line t s) (longest_end line t s)
-  one = one_route line t s valid sound.motion sound.authorized c
+  one = one_route line t s sound.authorized c sound.motion
 
   -- an authority has no more steps than the one route up to its end
   pub steps_few : (a : Authority) → AuthorityIs line t s a → a.mark + length a.path.steps.items ≤ length (steps_to (seg_len line) (longest_route line t s) (longest_end line t s))
   steps_few a is =
-      let k = (one).lies a is in
-      let n = ap (λ (xs : List DirSeg). length xs) k.on in
+      let n = ap (λ (xs : List DirSeg). length xs) is.on in
       let l = length-append (take a.mark (journey line t s)) a.path.steps.items in
-      let m = length-take-le a.mark (journey line t s) k.mark in
-      let w = cut_longer (seg_len line) (longest_route line t s) (authority_end (seg_len line) (journey line t s) a) (longest_end line t s) k.within in
+      let m = length-take-le a.mark (journey line t s) is.mark in
+      let w = cut_longer (seg_len line) (longest_route line t s) (authority_end (seg_len line) (journey line t s) a) (longest_end line t s) is.within in
       omega (arith, n, l, m, w)
 
   module _ (entered_ : entered t s ≡ true) (a : Authority) (is : AuthorityIs line t s a) (ahead : head t s ≤ authority_end (seg_len line) (journey line t s) a) where
@@ -85,27 +83,21 @@ module _ (line : Line) (t : ℕ) (s : Story) (valid : is_line line ≡ true) (so
     abbrev before : List DirSeg
     before = take a.mark (journey line t s)
 
-    lies : Lies line t s (longest_route line t s) (longest_end line t s) a
-    lies = (one).lies a is
-
     -- the journey is the first steps of the authority's route
     journey_first : (rest : List DirSeg) × (route (journey line t s) a ≡ journey line t s ++ rest)
     journey_first =
         let len = seg_len line in
-        let k = lies in
         let f = cut_front len (route steps a) (head t s) in
         let e : steps_to len (route steps a) (head t s) ≡ steps =
-        ap (λ xs. steps_to len xs (head t s)) k.on ∙ cut_cut len (longest_route line t s) (head t s) (authority_end len steps a) ahead ∙ sym (one).journey_on in
+        ap (λ xs. steps_to len xs (head t s)) is.on ∙ cut_cut len (longest_route line t s) (head t s) (authority_end len steps a) ahead ∙ sym (one).journey_on in
         (f.0, f.1 ∙ ap (λ xs. xs ++ f.0) e)
 
     begins : step_begin line t s a.mark < head t s
     begins =
-        let f = control_of line t s valid sound c in
-        let e = end_is line t s valid f.step f.first (portal_on_line line f.step valid f.portal) a is in
         let b = is.behind in
         let p = place_on line t s valid sound c entered_ in
         let some = sound.authorized.long_some is.declared in
-        omega (arith, e, b, p, some)
+        omega (arith, b, p, some)
 
     mark_before : a.mark < j
     mark_before =
@@ -119,7 +111,7 @@ module _ (line : Line) (t : ℕ) (s : Story) (valid : is_line line ≡ true) (so
         (λ n. grind (arith, nat_tests))
 
     mark_long : length (take a.mark (journey line t s)) ≡ a.mark
-    mark_long = length-take-le a.mark steps lies.mark
+    mark_long = length-take-le a.mark steps is.mark
 
     few : j ≤ a.mark + length a.path.steps.items
     few =

@@ -1,7 +1,4 @@
 -- Every message of a link is heeded: what is sent fits, and no number or mark is near the end of its type.
-use Rattle.sound_laws.proofs.One_route.{end_is}
-use Rattle.front_laws.proofs.Heads.{on_controls}
-use Rattle.authority_laws.proofs.Most_of.{most_more}
 use Rattle.std.proofs.Common.{◌≡◌, ℕ, ◌+◌, ◌-◌, ◌*◌, ◌<◌, ◌≤◌, List, length, take, Option, Some, None, Bool, true, false, ◌&&◌, ◌||◌, refl, sym, ◌∙◌, ap, arith, not, if◌then◌else◌}
 use Rattle.std.proofs.lemmas.Bool.Decides.{nat_tests}
 use Rattle.std.proofs.lemmas.Bool.{eqb-true}
@@ -31,14 +28,15 @@ use Rattle.plain_state.specs.ZoneTrain.{ZoneTrain}
 use Rattle.plain_state.specs.World.{auth_fits, covers_portal, is_step_at, lies_on, train_heeds, world_heeds}
 use Rattle.plain_state.specs.Zone.{find_way, fresh_number, fresh_mark, fresh_train, fresh_message, enters_here, zone_heeds}
 use Rattle.plain_state.specs.Plain.{Plain, zone_id}
-use Rattle.plain_state.specs.Relation.{kept_authority, head_of, world_of, zone_train_of, Linked}
+use Rattle.plain_state.specs.Relation.{kept_authority, head_of, world_of, zone_train_of, ZoneLinked, Linked}
 use Rattle.motion_laws.proofs.Notions.{both, number_most}
 use Rattle.motion_laws.proofs.Issued.{issued_all}
 use Rattle.way_laws.proofs.Lines.{portal_on_line}
+use Rattle.sound_laws.proofs.One_route.{numbered_controls}
 use Rattle.way_laws.proofs.Between_places.{between_mark, between_steps}
 use Rattle.sound_laws.proofs.Sound.{path_fits, AuthorityIs, FirstIs, AuthIs, AuthTrue, RequestTrue, Sound}
 use Rattle.link_laws.proofs.Zone_trains.{all_found}
-use Rattle.link_laws.proofs.One_zone.{zone_is}
+use Rattle.link_laws.proofs.One_zone.{zone_is, the_zone}
 use Rattle.link_laws.proofs.Way_of.{way_of}
 use Rattle.link_laws.proofs.Head_on.{HeadOn, head_on, steps_few}
 
@@ -52,19 +50,17 @@ step_self st = rw (itself st.seg.0) (same st.dir)
     same Up = refl
     same Down = refl
 
--- a train that an authority was issued to is controlled
-pub issued_controls : (line : Line) (t : ℕ) (s : Story) → Sound line t s → 1 ≤ last_issued t s → controls (zone_id line) t s ≡ true
-issued_controls line t s sound h = by_test (controls (zone_id line) t s) (λ y. y)
-    (λ n. let z = sound.authorized.unknown n in absurd (omega (arith, h, z)))
-
 -- The marks of authorities.
 module _ (line : Line) (s : Story) (p : Plain) (one : IsLineOfOneZone line) (k : Linked line s p) (sound : (t : ℕ) → Sound line t s) where
   abbrev len : Lengths
   len = seg_len line
 
+  abbrev own : ZoneLinked line (zone_id line) s (p.zones (zone_id line))
+  own = the_zone line s p one k
+
   pub found_way : (t : ℕ) (c : controls (zone_id line) t s ≡ true)
-      → find_way t p.zone.trains ≡ zone_train_of line (zone_id line) t s (Some (way_between (seg_len line) (longest_route line t s) (((sound t).fronts c).lo - (known_facts (zone_id line) t s).long) (longest_end line t s)))
-  found_way t c = k.ways t ∙ ap (λ (w : Option PlainWay). zone_train_of line (zone_id line) t s w) ((way_of line t s one.valid (sound t) c).is)
+      → find_way t (p.zones (zone_id line)).trains ≡ zone_train_of line (zone_id line) t s (Some (way_between (seg_len line) (longest_route line t s) (((sound t).fronts c).lo - (known_facts (zone_id line) t s).long) (longest_end line t s)))
+  found_way t c = own.ways t ∙ ap (λ (w : Option PlainWay). zone_train_of line (zone_id line) t s w) ((way_of line t s one.valid (sound t) c).is)
 
   -- the steps of the way, and those before it, are all of the journey up to its end
   pub way_steps : (t : ℕ) (c : controls (zone_id line) t s ≡ true) → length (steps_to (seg_len line) (longest_route line t s) (longest_end line t s)) ≤ 24 * length s
@@ -81,7 +77,7 @@ module _ (line : Line) (s : Story) (p : Plain) (one : IsLineOfOneZone line) (k :
       let e = ap (λ (xs : List DirSeg). length xs) (between_steps len steps rear end before w.room) in
       let a = length-append (take (way_between len steps rear end).mark steps) (way_between len steps rear end).path.steps.items in
       let l = length-take-le (way_between len steps rear end).mark steps (omega (arith, b)) in
-      let m = k.marks t _ (found_way t c) in
+      let m = own.marks t _ (found_way t c) in
       omega (arith, e, a, l, m)
 
   pub marks_few : (t : ℕ) (a : Authority) → AuthorityIs line t s a → controls (zone_id line) t s ≡ true → a.mark + length a.path.steps.items ≤ 24 * length s + 1
@@ -129,10 +125,8 @@ module _ (line : Line) (s : Story) (p : Plain) (one : IsLineOfOneZone line) (k :
       let e = is.exact in
       let n = l.number in
       let o = l.ahead in
-      let m = most_more line (first_entry t s) t (last_number t s) number s h in
-      let k = (sound t).authorized.controlled (on_controls line t s (sound t) on) in
-      let i = end_is line t s one.valid k.step k.first (portal_on_line line k.step one.valid k.portal) a is.authority in
-      omega (arith, e, n, o, m, i)
+      let m = (sound t).authorized.rising (last_number t s) number (omega arith) h is.known in
+      omega (arith, e, n, o, m)
 
   heeds : (t number mark : ℕ) (path : Path) → AuthIs line t s number (record { mark = mark; path = path }) → controls (zone_id line) t s ≡ true
       → (f : Option Facts) → facts_of t s ≡ f
@@ -164,7 +158,7 @@ module _ (line : Line) (s : Story) (p : Plain) (one : IsLineOfOneZone line) (k :
         let most : (if nat_eq t t then number else 0) ≤ last_issued t s = number_most (auth_number t) from to s j (msg.Auth u number mark path) is in
         let n : number ≤ last_issued t s = rw e at most in
         let b = a.positive in
-        let c = issued_controls line t s (sound t) (omega (arith, n, b)) in
+        let c = numbered_controls line t s (sound t).authorized (omega (arith, n, b)) in
         let few = marks_few t (record { mark = mark; path = path }) a.authority c in
         rw (fitting path mark a.authority.fits (omega (arith, few, short)))
         (ap (λ (x : Option WorldTrain). train_heeds len x number mark path) (k.trains t) ∙ heeds t number mark path a c (facts_of t s) refl)
@@ -199,9 +193,9 @@ module _ (line : Line) (s : Story) (p : Plain) (one : IsLineOfOneZone line) (k :
         answered_or None = 0
         answered_or (Some y) = y.answered
 
-    fresh_trains : list_all fresh_train p.zone.trains ≡ true
-    fresh_trains = all_found fresh_train p.zone.trains k.distinct (λ t x found.
-        fresh_of t (way line (zone_id line) t s) x (sym (k.ways t) ∙ found) (let m = k.marks t x found in omega (arith, m, short)))
+    fresh_trains : list_all fresh_train (p.zones (zone_id line)).trains ≡ true
+    fresh_trains = all_found fresh_train (p.zones (zone_id line)).trains own.distinct (λ t x found.
+        fresh_of t (way line (zone_id line) t s) x (sym (own.ways t) ∙ found) (let m = own.marks t x found in omega (arith, m, short)))
 
     fresh_taken : (from to j : ℕ) (m : Msg) → slice_get (sent from to s) j ≡ Some m → fresh_message m ≡ true
     fresh_taken from to j (msg.Answer u time number taken) is =
@@ -216,7 +210,7 @@ module _ (line : Line) (s : Story) (p : Plain) (one : IsLineOfOneZone line) (k :
         let most : (if nat_eq t t then number else 0) ≤ last_issued t s = number_most (auth_number t) from to s j (msg.Auth u number mark path) is in
         let n : number ≤ last_issued t s = rw e at most in
         let b = a.positive in
-        let c = issued_controls line t s (sound t) (omega (arith, n, b)) in
+        let c = numbered_controls line t s (sound t).authorized (omega (arith, n, b)) in
         let few = marks_few t (record { mark = mark; path = path }) a.authority c in
         let l = low t in
         let x : fresh_number number ≡ true = grind (arith, nat_tests) in
@@ -238,7 +232,7 @@ module _ (line : Line) (s : Story) (p : Plain) (one : IsLineOfOneZone line) (k :
     entered_here from to j (msg.Answer u time number taken) is = refl
     entered_here from to j (msg.Auth u number mark path) is = refl
 
-    pub zone_heeded : (from to j : ℕ) (m : Msg) → slice_get (sent from to s) j ≡ Some m → zone_heeds line p.zone 0 m ≡ true
+    pub zone_heeded : (from to j : ℕ) (m : Msg) → slice_get (sent from to s) j ≡ Some m → zone_heeds line (p.zones (zone_id line)) 0 m ≡ true
     zone_heeded from to j m is =
-        let here : enters_here line p.zone.id m ≡ true = ap (λ (z : ℕ). enters_here line z m) k.zone ∙ entered_here from to j m is in
+        let here : enters_here line (p.zones (zone_id line)).id m ≡ true = ap (λ (z : ℕ). enters_here line z m) own.id ∙ entered_here from to j m is in
         rw (here, fresh_taken from to j m is, fresh_trains) refl

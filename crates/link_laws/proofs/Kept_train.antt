@@ -1,15 +1,15 @@
--- A train that the zone keeps, by its ends on a front of its track.
-use Rattle.std.proofs.Common.{◌≡◌, ℕ, ◌+◌, ◌-◌, ◌<◌, ◌≤◌, min, List, Option, Some, true, false, refl, sym, ◌∙◌, ap, subst, arith, None}
+-- A train that the zone keeps, by its ends on its one route.
+use Rattle.std.proofs.Common.{◌≡◌, ℕ, ◌+◌, ◌-◌, ◌≤◌, min, List, Option, Some, true, false, refl, ◌∙◌, ap, arith, None}
 use Rattle.std.proofs.lemmas.Bool.Decides.{nat_tests}
 use Rattle.std.specs.Prelude.{nat_lt}
 use Rattle.track_points.specs.declared.ids.DirSeg.{DirSeg}
-use Rattle.track_points.specs.Points.{Lengths, total}
+use Rattle.track_points.specs.Points.{Lengths}
 use Rattle.envelope.specs.Fronts.{farthest_move}
-use Rattle.definitions.specs.Track.{Line, seg_len, track_from}
+use Rattle.definitions.specs.Track.{Line, seg_len}
 use Rattle.definitions.specs.Rules.{is_line}
 use Rattle.definitions.specs.Ways.{PlainWay, way_between}
 use Rattle.definitions.specs.Story.{Story}
-use Rattle.definitions.specs.World.{Facts, first_entry, journey}
+use Rattle.definitions.specs.World.{Facts, journey}
 use Rattle.definitions.specs.Account.{Account}
 use Rattle.definitions.specs.Fold.{account}
 use Rattle.definitions.specs.Control.{controls, known_facts, now_of, last_issued}
@@ -19,9 +19,7 @@ use Rattle.plain_state.specs.ZoneTrain.{ZoneTrain}
 use Rattle.plain_state.specs.Zone.{grown_train}
 use Rattle.plain_state.specs.Plain.{zone_id}
 use Rattle.plain_state.specs.Relation.{pending_of, zone_train_of, zone_train}
-use Rattle.way_laws.proofs.Track.{TrackFront}
 use Rattle.way_laws.proofs.Between_places.{begin_of, behind_from}
-use Rattle.way_laws.proofs.Between_moved.{between_same, between_before}
 use Rattle.sound_laws.proofs.Sound.{Sound}
 use Rattle.link_laws.proofs.Way_of.{way_of}
 
@@ -43,31 +41,6 @@ kept_train len t f steps lo hi end at report last answered = record {
   answered = answered;
   pending = None;
 }
-
--- another front of the track that reaches the end will do
-pub kept_same : (line : Line) (first : Option DirSeg) (len : Lengths) (t : ℕ) (f : Facts) (a b : List DirSeg) (lo hi end at report last answered : ℕ) → TrackFront line first a → TrackFront line first b
-    → lo - f.long < end → end ≤ total len a → end ≤ total len b → kept_train len t f a lo hi end at report last answered ≡ kept_train len t f b lo hi end at report last answered
-kept_same line first len t f a b lo hi end at report last answered g h order u v =
-    let rear = lo - f.long in
-    let w = between_same line first len a b rear end g h order u v in
-    let one = between_before line first len a g rear end order u in
-    let two = between_before line first len b h rear end order v in
-    let begins = ap (total len) one ∙ (ap (λ (x : PlainWay). total len (track_from line first x.mark)) w ∙ sym (ap (total len) two)) in
-    ap (λ (x : PlainWay). with_way x (begin_of len a rear)) w ∙ ap (λ (n : ℕ). with_way (way_between len b rear end) n) begins
-  where
-    with_way : PlainWay → ℕ → ZoneTrain
-    with_way w n = record {
-      id = record { 0 = t };
-      train_length = f.long;
-      error = f.error;
-      speed = f.speed;
-      way = w;
-      fronts = record { lo = lo - n; hi = hi - n; at = at };
-      report = report;
-      last = last;
-      answered = answered;
-      pending = None;
-    }
 
 -- no shrink is unanswered
 none_pending : (len : Lengths) (steps : List DirSeg) (start : ℕ) (v : Account) → v.shrink ≡ 0 → pending_of len steps start v ≡ None
@@ -134,24 +107,15 @@ kept_grown clock len t f steps lo hi end at report last answered o w =
       pending = None;
     }
 
--- the same track to the same end behind an event: what is kept lies on the route of before
-pub zone_behind : (line : Line) (t : ℕ) (s s2 : Story) (valid : is_line line ≡ true) (sound : Sound line t s) (sound2 : Sound line t s2) (c : controls (zone_id line) t s ≡ true) (c2 : controls (zone_id line) t s2 ≡ true)
-    → first_entry t s2 ≡ first_entry t s → known_facts (zone_id line) t s2 ≡ known_facts (zone_id line) t s → longest_end line t s2 ≡ longest_end line t s
+-- behind an event that leaves the longest route
+pub zone_behind : (line : Line) (t : ℕ) (s s2 : Story) (valid : is_line line ≡ true) (sound2 : Sound line t s2) (c2 : controls (zone_id line) t s2 ≡ true)
+    → known_facts (zone_id line) t s2 ≡ known_facts (zone_id line) t s → longest_end line t s2 ≡ longest_end line t s → longest_route line t s2 ≡ longest_route line t s
     → zone_train line t s2 ≡ Some (kept_train (seg_len line) t (known_facts (zone_id line) t s) (longest_route line t s) (sound2.fronts c2).lo (sound2.fronts c2).hi (longest_end line t s)
     (now_of (zone_id line) s2) (report_time line (zone_id line) t s2) (last_issued t s2) (counted line t s2))
-zone_behind line t s s2 valid sound sound2 c c2 first facts end =
+zone_behind line t s s2 valid sound2 c2 facts end route =
     let z = zone_id line in
     let len = seg_len line in
-    let a = way_of line t s valid sound c in
-    let b = way_of line t s2 valid sound2 c2 in
-    let front = subst (λ (x : Option DirSeg). TrackFront line x (longest_route line t s2)) first b.front in
-    let room = b.room in
-    let order = b.order in
-    let ordered = b.ordered in
-    let within = b.within in
     zone_kept line t s2 valid sound2 c2
     ∙ (ap (λ (f : Facts). Some (kept_train len t f (longest_route line t s2) (sound2.fronts c2).lo (sound2.fronts c2).hi (longest_end line t s2) (now_of z s2) (report_time line z t s2) (last_issued t s2) (counted line t s2))) facts
     ∙ (ap (λ (n : ℕ). Some (kept_train len t (known_facts z t s) (longest_route line t s2) (sound2.fronts c2).lo (sound2.fronts c2).hi n (now_of z s2) (report_time line z t s2) (last_issued t s2) (counted line t s2))) end
-    ∙ ap (λ (x : ZoneTrain). Some x) (kept_same line (first_entry t s) len t (known_facts z t s) (longest_route line t s2) (longest_route line t s) (sound2.fronts c2).lo (sound2.fronts c2).hi (longest_end line t s)
-    (now_of z s2) (report_time line z t s2) (last_issued t s2) (counted line t s2) front a.front
-    (let e = ap (λ (f : Facts). f.long) facts in omega (arith, e, order, ordered, within, end)) (omega (arith, room, end)) a.room)))
+    ∙ ap (λ (xs : List DirSeg). Some (kept_train len t (known_facts z t s) xs (sound2.fronts c2).lo (sound2.fronts c2).hi (longest_end line t s) (now_of z s2) (report_time line z t s2) (last_issued t s2) (counted line t s2))) route))

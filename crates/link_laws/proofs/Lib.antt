@@ -12,7 +12,7 @@ pub mod Unissued
 pub mod Zone_idle
 pub mod Shown
 pub mod World_moves
-pub mod Journeys
+pub mod Head_moved
 pub mod Limits
 pub mod World_linked
 pub mod World_steps

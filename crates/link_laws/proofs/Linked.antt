@@ -1,13 +1,13 @@
 -- What a program that keeps the plain state may say of the story.
-use Rattle.std.proofs.Common.{◌≡◌, ℕ, suc, ◌<◌, max, List, [], ◌∷◌, length, Some, true, refl, ap, subst, sym}
+use Rattle.std.proofs.Common.{◌≡◌, ℕ, suc, ◌<◌, List, [], ◌∷◌, length, Some, true, refl, ap, subst, sym}
 use Rattle.definitions.specs.declared.event.Event.{Event}
 use Rattle.track_points.specs.Points.{Point}
-use Rattle.definitions.specs.Track.{Line, seg_len, is_actor}
+use Rattle.definitions.specs.Track.{Line, layout}
 use Rattle.definitions.specs.Authority.{envelope}
 use Rattle.plain_state.specs.ZoneTrain.{ZoneTrain}
 use Rattle.plain_state.specs.Zone.{find_way, envelope_has}
 use Rattle.definitions.specs.Premises.{built, too_many, premise_of, admits}
-use Rattle.definitions.specs.Steps.{Effect, effects, story_of, taken_by, taken_most, deliveries}
+use Rattle.definitions.specs.Steps.{Effect, effects, story_of}
 use Rattle.definitions.specs.Safe.{IsLineOfOneZone, Kept}
 use Rattle.plain_state.specs.Plain.{Plain, zone_id, plain_effect, plain_next}
 use Rattle.plain_state.specs.Admits.{plain_built, plain_too_many, plain_premise}
@@ -16,7 +16,7 @@ use Rattle.motion_laws.proofs.Admitted.{admitted}
 use Rattle.motion_laws.proofs.Times.{timed_story}
 use Rattle.sound_laws.proofs.Sound.{Sound}
 use Rattle.link_laws.proofs.Admitting.{built_now, too_many_now, premise_now}
-use Rattle.link_laws.proofs.Deliveries.{sender_to, due_on, deliveries_now, taken_next}
+use Rattle.link_laws.proofs.One_zone.{the_zone}
 use Rattle.link_laws.proofs.Envelopes.{envelope_now}
 use Rattle.link_laws.proofs.Linking.{effect_now, linked_step}
 
@@ -60,17 +60,7 @@ unfolding story_of
 linked_next line es p e one short k h linked sound =
     linked_step line (story_of line es) p e one (story_short line es short) (admitted line (story_of line es) e h) (timed_story line es k) linked (λ t. sound t es k) (sound_behind line es e k h sound)
 
--- a delivery stands for what its sender sent behind the greatest ordinal that was taken on the link
-pub deliveries_is : (line : Line) (es : List Event) (p : Plain) (to : ℕ) → IsLineOfOneZone line → Kept line es → Linked line (story_of line es) p → is_actor line to ≡ true
-    → deliveries line (story_of line es) to ≡ due_on p (story_of line es) to (sender_to p to)
-deliveries_is line es p to one k linked a = deliveries_now line (story_of line es) p to one linked a
-
--- that ordinal, event by event
-pub taken_is : (line : Line) (es : List Event) (e : Event) (to from : ℕ) → taken_most to from (story_of line (e ∷ es)) ≡ max (taken_by to from e) (taken_most to from (story_of line es))
-unfolding story_of
-taken_is line es e to from = taken_next line (story_of line es) e to from
-
 -- the envelope that the zone shows of a train
-pub envelope_is : (line : Line) (es : List Event) (p : Plain) (t : ℕ) (x : ZoneTrain) (point : Point) → IsLineOfOneZone line → Kept line es → Linked line (story_of line es) p → AllSound line → find_way t p.zone.trains ≡ Some x
-    → envelope_has (seg_len line) x point ≡ envelope line (zone_id line) t (story_of line es) point
-envelope_is line es p t x point one k linked sound found = envelope_now line (story_of line es) p one.valid linked (λ u. sound u es k) t x point found
+pub envelope_is : (line : Line) (es : List Event) (p : Plain) (t : ℕ) (x : ZoneTrain) (point : Point) → IsLineOfOneZone line → Kept line es → Linked line (story_of line es) p → AllSound line → find_way t (p.zones (zone_id line)).trains ≡ Some x
+    → envelope_has (layout line) x point ≡ envelope line (zone_id line) t (story_of line es) point
+envelope_is line es p t x point one k linked sound found = envelope_now line (story_of line es) (p.zones (zone_id line)) one.valid (the_zone line (story_of line es) p one linked) (λ u. sound u es k) t x point found

@@ -2,6 +2,7 @@
 use Rattle.std.proofs.Common.{◌≡◌, ℕ, zero, suc, ◌-◌, ◌<◌, List, [], ◌∷◌, length, Option, Some, None, Bool, true, false, ◌&&◌, refl, sym, ◌∙◌, ap, subst, arith, not, if◌then◌else◌}
 use Rattle.std.proofs.lemmas.Bool.Decides.{nat_tests}
 use Rattle.std.proofs.lemmas.Option.{slice_get-get_or}
+use Rattle.std.proofs.Math.Bool.{and-false}
 use Rattle.std.specs.Prelude.{nat_eq, nat_lt, nat_le, slice_get, is_some}
 use Rattle.std.specs.List.{list_all}
 use Rattle.track_points.proofs.Some.{by_test}
@@ -9,11 +10,12 @@ use Rattle.definitions.specs.declared.event.Event.{Event}
 use Rattle.definitions.specs.declared.event.Event.TheVariants.{Train, Entry, Enter, Ask, Step, Report, Time, Take, Deliver}
 use Rattle.definitions.specs.declared.message.Msg.{Msg}
 use Rattle.definitions.specs.declared.message.Msg.TheVariants as msg
-use Rattle.definitions.specs.Track.{Line, ranged, seg_len, zone_of, begins_at_portal, is_actor, last_step}
+use Rattle.definitions.specs.Track.{Line, ranged, seg_len, owner, zone_of, begins_at_portal, is_actor, last_step}
 use Rattle.definitions.specs.Premises.{ascending, known_train, off_by, head_offset, takes_rightly}
 use Rattle.definitions.specs.Story.{Entry as Made, Story, sent, ever, ever_issued, first_told, greatest_issued}
 use Rattle.definitions.specs.World.{Facts, facts_of, is_declared, error_of, entered, entry_authority, last_number, clock, journey, trains, head, limit_held}
-use Rattle.definitions.specs.Control.{grants_entry, controls, known_trains, now_of}
+use Rattle.definitions.specs.Control.{grants_entry, controls, greatest_known, now_of}
+use Rattle.definitions.specs.Numbers.{numbers_below}
 use Rattle.definitions.specs.Account.{farthest}
 use Rattle.definitions.specs.Fold.{account}
 use Rattle.definitions.specs.Steps.{Effect, nothing, entering, requesting, telling, sender_of, taking_auth, world_takes, zone_step, taking, message, effects}
@@ -21,8 +23,8 @@ use Rattle.definitions.specs.Safe.{IsLineOfOneZone}
 use Rattle.track_points.specs.Points.{step_eq}
 use Rattle.plain_state.specs.declared.Head.{Head}
 use Rattle.plain_state.specs.World.{PlainWorld, find_train, head_found, on_found, auth_answer, trains_after, world_take_effect, mark_of}
-use Rattle.plain_state.specs.Zone.{find_way}
-use Rattle.plain_state.specs.Plain.{Plain, plain_start, zone_id, by_world as world_next, taken_effect, taken_next, plain_effect, plain_next}
+use Rattle.plain_state.specs.Zone.{find_way, zone_take_effect, zone_take_next}
+use Rattle.plain_state.specs.Plain.{Plain, plain_start, zone_id, by_world as world_next, by_zone as zone_next, taken_effect, taken_next, plain_effect, plain_next}
 use Rattle.plain_state.specs.Relation.{head_of, ids, Distinct, Linked}
 use Rattle.motion_laws.proofs.Notions.{both, not_true}
 use Rattle.motion_laws.proofs.Issued.{AllIn}
@@ -32,7 +34,6 @@ use Rattle.sound_laws.proofs.Sound.{Sound}
 use Rattle.front_laws.proofs.Front_moves.{grant_takes}
 use Rattle.link_laws.proofs.One_zone.{actor_zone, world_sent}
 use Rattle.link_laws.proofs.Values.{facts_is, authority_is, head_is, on_is, number_is}
-use Rattle.link_laws.proofs.Admitting.{link_now}
 use Rattle.link_laws.proofs.Heeded.{world_heeded, zone_heeded}
 use Rattle.link_laws.proofs.World_linked.{train_linked, entry_linked}
 use Rattle.link_laws.proofs.World_steps.{enter_linked, still_linked, step_linked}
@@ -73,21 +74,21 @@ module _ (line : Line) (s : Story) (p : Plain) (one : IsLineOfOneZone line) (sho
     effect : effect_of (taking line s (Take to from number) to from r) ≡ taken_effect line p to from r
     linked : Linked line (taking line s (Take to from number) to from r ∷ s) (taken_next line p to from r)
 
-  zone_follows : (z number : ℕ) (m : Msg) → suc z ≡ zone_id line → message 0 (suc z) number s ≡ Some m → ((t : ℕ) → Sound line t (zone_made z number m (zone_step line (suc z) s m) ∷ s)) → Follows (suc z) 0 number (Some m)
+  zone_follows : (z number : ℕ) (m : Msg) → suc z ≡ zone_id line → message 0 (suc z) number s ≡ Some m → ((t : ℕ) → Sound line t (zone_made z number m (zone_step line (suc z) 0 s m) ∷ s)) → Follows (suc z) 0 number (Some m)
   zone_follows z number m zone is after =
       let heeds = zone_heeded line s p one k sound short 0 (suc z) (number - 1) m is in
-      let later : (t : ℕ) → Sound line t (zone_made z number m (zone_step line (zone_id line) s m) ∷ s) = λ t. subst (λ (n : ℕ). Sound line t (zone_made z number m (zone_step line n s m) ∷ s)) zone (after t) in
-      let grants : (t : ℕ) → controls (zone_id line) t s ≡ true → grants_entry (zone_id line) t (zone_made z number m (zone_step line (zone_id line) s m)) ≡ false = λ t c.
-      by_test (grants_entry (zone_id line) t (zone_made z number m (zone_step line (zone_id line) s m)))
+      let later : (t : ℕ) → Sound line t (zone_made z number m (zone_step line (zone_id line) 0 s m) ∷ s) = λ t. subst (λ (n : ℕ). Sound line t (zone_made z number m (zone_step line n 0 s m) ∷ s)) zone (after t) in
+      let grants : (t : ℕ) → controls (zone_id line) t s ≡ true → grants_entry (zone_id line) t (zone_made z number m (zone_step line (zone_id line) 0 s m)) ≡ false = λ t c.
+      by_test (grants_entry (zone_id line) t (zone_made z number m (zone_step line (zone_id line) 0 s m)))
       (λ y.
-      let back = subst (λ (n : ℕ). grants_entry (zone_id line) t (zone_made z number m (zone_step line n s m)) ≡ true) (sym zone) y in
+      let back = subst (λ (n : ℕ). grants_entry (zone_id line) t (zone_made z number m (zone_step line n 0 s m)) ≡ true) (sym zone) y in
       let all = subst (λ (r : Option Msg). grants_entry (zone_id line) t (taking line s (Take (suc z) 0 number) (suc z) 0 r) ≡ true) (sym is) back in
       let fresh = (grant_takes line s (Take (suc z) 0 number) (zone_id line) t all).0 in
       absurd (let x : true ≡ false = sym c ∙ fresh in cc))
       (λ n. n) in
       record {
-        effect = ap (λ (n : ℕ). zone_step line n s m) zone ∙ zone_taken line z number m s p one zone k sound later grants heeds;
-        linked = subst (λ (n : ℕ). Linked line (zone_made z number m (zone_step line n s m) ∷ s) (taken_next line p (suc z) 0 (Some m))) (sym zone) (zone_take_linked line z number m s p one zone k sound later grants heeds);
+        effect = ap (λ (n : ℕ). zone_step line n 0 s m) zone ∙ (zone_taken line z number m s p one zone k sound later grants heeds ∙ ap (λ (n : ℕ). zone_take_effect line (p.zones n) 0 m) (sym zone));
+        linked = subst (λ (n : ℕ). Linked line (zone_made z number m (zone_step line n 0 s m) ∷ s) (zone_next p n (zone_take_next line (p.zones n) 0 m) (zone_take_effect line (p.zones n) 0 m))) (sym zone) (zone_take_linked line z number m s p one zone k sound later grants heeds);
       }
 
   world_follows : (from number : ℕ) (m : Msg) → message from 0 number s ≡ Some m → ((t : ℕ) → Sound line t (take_made 0 from number m (world_takes s from m) ∷ s)) → Follows 0 from number (Some m)
@@ -138,7 +139,7 @@ module _ (line : Line) (s : Story) (p : Plain) (one : IsLineOfOneZone line) (sho
       ap (λ (ms : ℕ). telling z.0 (msg.Report u ms (length (journey line u.0 s) - 1) offset whole)) (sym k.time) ∙ ap (λ (n : ℕ). telling z.0 (msg.Report u p.world.clock n offset whole)) (mark_now u.0 on)
   effect_now (Time z u) a after = ap (λ (ms : ℕ). telling z.0 (msg.Time ms u)) (sym k.time)
   effect_now (Take to from number) a after =
-      (taken_follows to from number a after).effect ∙ ap (λ (xs : List Msg). taken_effect line p to from (slice_get xs (number - 1))) (sym (link_now line s p k sound one to from number a.form))
+      (taken_follows to from number a after).effect ∙ ap (λ (xs : List Msg). taken_effect line p to from (slice_get xs (number - 1))) (sym (k.links from to a.form))
   effect_now (Deliver to) a after = refl
 
   issued_now : (e : Event) → Admitted line s e → ((t : ℕ) → Sound line t (effects line s e ∷ s)) → (plain_effect line p e).issued ≡ (effects line s e).issued
@@ -155,7 +156,8 @@ module _ (line : Line) (s : Story) (p : Plain) (one : IsLineOfOneZone line) (sho
   linked_after (Entry u step) a after =
       entry_linked line (clock s) u step (zone_of line step.seg.0) (facts_of u.0 s) s p (plain_effect line p (Entry u step)) one (both (is_declared u.0 s) (begins_at_portal line step) a.form).0 k sound after (issued_now (Entry u step) a after)
   linked_after (Enter u) a after =
-      enter_linked line (clock s) u (sender_of (entry_authority u.0 s)) s p (plain_effect line p (Enter u)) one a.form (both (is_some (entry_authority u.0 s)) (not (entered u.0 s)) a.entering).0 k sound after (issued_now (Enter u) a after)
+      let b = both (is_some (entry_authority u.0 s)) (not (entered u.0 s)) a.entering in
+      enter_linked line (clock s) u (sender_of (entry_authority u.0 s)) s p (plain_effect line p (Enter u)) one a.form b.0 (not_true (entered u.0 s) b.1) k sound after (issued_now (Enter u) a after)
   linked_after (Ask u z steps to) a after =
       still_linked line s p (effects line s (Ask u z steps to)) (plain_effect line p (Ask u z steps to)) one refl refl (λ t. record { facts = refl; entry = refl; off = refl; still = refl; taken = refl }) refl (λ t. (refl, tt)) k sound after (issued_now (Ask u z steps to) a after)
   linked_after (Step ms moves) a after =
@@ -168,7 +170,7 @@ module _ (line : Line) (s : Story) (p : Plain) (one : IsLineOfOneZone line) (sho
   linked_after (Time z u) a after =
       still_linked line s p (effects line s (Time z u)) (plain_effect line p (Time z u)) one refl refl (λ t. record { facts = refl; entry = refl; off = refl; still = refl; taken = refl }) refl (λ t. (refl, tt)) k sound after (issued_now (Time z u) a after)
   linked_after (Take to from number) a after =
-      subst (λ (xs : List Msg). Linked line (effects line s (Take to from number) ∷ s) (taken_next line p to from (slice_get xs (number - 1)))) (sym (link_now line s p k sound one to from number a.form))
+      subst (λ (xs : List Msg). Linked line (effects line s (Take to from number) ∷ s) (taken_next line p to from (slice_get xs (number - 1)))) (sym (k.links from to a.form))
       (taken_follows to from number a after).linked
   linked_after (Deliver to) a after =
       still_linked line s p (effects line s (Deliver to)) (plain_effect line p (Deliver to)) one refl refl (λ t. record { facts = refl; entry = refl; off = refl; still = refl; taken = refl }) refl (λ t. tt) k sound after refl
@@ -177,23 +179,24 @@ pub linked_step : (line : Line) (s : Story) (p : Plain) (e : Event) → IsLineOf
     → ((t : ℕ) → Sound line t s) → ((t : ℕ) → Sound line t (effects line s e ∷ s)) → Linked line (effects line s e ∷ s) (plain_next line p e)
 linked_step line s p e one short a timed k sound after = linked_after line s p one short k sound e a after
 
-pub linked_start : (line : Line) → Linked line [] (plain_start (zone_id line))
-unfolding find_train find_way sent ever ever_issued first_told account farthest trains ids known_trains Distinct now_of greatest_issued clock limit_held head
+pub linked_start : (line : Line) → Linked line [] plain_start
+unfolding find_train find_way sent ever controls ever_issued first_told account farthest trains ids greatest_known numbers_below Distinct now_of greatest_issued clock limit_held head
 linked_start line = record {
   time = refl;
   trains = λ t. refl;
   count = refl;
-  zone = refl;
-  clock = refl;
-  ways = λ t. refl;
-  fronts = λ t f x found. absurd cc;
-  holds = λ t point. refl;
-  known = refl;
-  distinct = tt;
-  to_zone = refl;
-  to_world = refl;
+  zones = λ z h. record {
+    id = refl;
+    clock = refl;
+    ways = λ t. refl;
+    fronts = λ t f x found. absurd cc;
+    holds = λ t point. sym (and-false (nat_eq (owner line point) z));
+    known = refl;
+    distinct = tt;
+    marks = λ t x found. absurd cc;
+  };
+  links = λ from to h. refl;
   few = λ t. omega arith;
-  marks = λ t x found. absurd cc;
   unasked = λ t d. refl;
   stays_off = λ t d. refl;
   authorized = λ t d. absurd cc;

@@ -1,16 +1,14 @@
 -- A kept train whose way is lengthened, and one whose authority is issued anew.
-use Rattle.way_laws.proofs.Lines.{portal_on_line}
-use Rattle.front_laws.proofs.Heads.{control_of}
-use Rattle.std.proofs.Common.{◌≡◌, ℕ, ◌+◌, ◌-◌, ◌<◌, ◌≤◌, List, length, drop, Option, Some, true, sym, ◌∙◌, ap, arith, None, take}
-use Rattle.std.proofs.lemmas.List.{length-append, length-take-le}
+use Rattle.std.proofs.Common.{◌≡◌, ℕ, ◌+◌, ◌-◌, ◌<◌, ◌≤◌, List, length, drop, Some, true, sym, ◌∙◌, ap, arith, None, take}
+use Rattle.std.proofs.lemmas.List.{length-append, length-take}
 use Rattle.track_points.specs.declared.ids.DirSeg.{DirSeg}
 use Rattle.track_points.specs.declared.path.Path.{Path}
 use Rattle.track_points.specs.Points.{Lengths, total, end_place, steps_to, offset_to}
-use Rattle.definitions.specs.Track.{Line, seg_len, track_from}
+use Rattle.definitions.specs.Track.{Line, seg_len}
 use Rattle.definitions.specs.Rules.{is_line}
 use Rattle.definitions.specs.Ways.{PlainWay, way_between}
 use Rattle.definitions.specs.Story.{Story}
-use Rattle.definitions.specs.World.{Authority, Facts, first_entry, authority_end, journey}
+use Rattle.definitions.specs.World.{Authority, Facts, route, authority_end, journey}
 use Rattle.definitions.specs.Control.{controls, known_facts, now_of, last_issued}
 use Rattle.definitions.specs.Longest.{counted, longest_end, longest_route}
 use Rattle.definitions.specs.Fronts.{report_time}
@@ -22,13 +20,11 @@ use Rattle.plain_state.specs.Plain.{zone_id}
 use Rattle.plain_state.specs.Relation.{zone_train}
 use Rattle.way_laws.proofs.Cut.{cut_front, cut_some, cut_total}
 use Rattle.way_laws.proofs.Cuts.{cut_again, offset_more}
-use Rattle.way_laws.proofs.Track.{TrackFront, track_front}
 use Rattle.way_laws.proofs.Between_places.{begin_of, between_ends}
-use Rattle.way_laws.proofs.Between_moved.{between_before, between_same, between_longer}
-use Rattle.sound_laws.proofs.Sound.{track, track_end, AuthorityIs, Sound}
-use Rattle.sound_laws.proofs.One_route.{end_on_track, one_route, end_is}
-use Rattle.link_laws.proofs.Way_of.{way_of}
-use Rattle.link_laws.proofs.Kept_train.{kept_train, kept_same, zone_kept}
+use Rattle.way_laws.proofs.Between_moved.{between_cut, begin_cut, between_longer}
+use Rattle.sound_laws.proofs.Sound.{AuthorityIs, Sound}
+use Rattle.sound_laws.proofs.One_route.{kept_cut, longest_on}
+use Rattle.link_laws.proofs.Kept_train.{kept_train, zone_kept}
 
 offset_again : (len : Lengths) (steps : List DirSeg) (p : ℕ) → 0 < length steps → p ≤ total len steps → offset_to len (steps_to len steps p) p ≡ offset_to len steps p
 offset_again len steps p some h =
@@ -97,49 +93,34 @@ kept_longer len asked t f a b lo hi end d at report last answered begins way_is 
       pending = None;
     }
 
--- lengthened onto another front of the track
-pub kept_lengthened : (line : Line) (first : Option DirSeg) (len : Lengths) (asked : List DirSeg) (t : ℕ) (f : Facts) (a b : List DirSeg) (lo hi end d at report last answered : ℕ) → TrackFront line first a → TrackFront line first b
-    → lo - f.long < end → end ≤ total len a → end ≤ total len b
+-- lengthened onto a route that goes on from its own
+pub kept_lengthened : (len : Lengths) (asked : List DirSeg) (t : ℕ) (f : Facts) (a b : List DirSeg) (lo hi end d at report last answered : ℕ) → a ≡ steps_to len b end
+    → lo - f.long < end → end ≤ total len b
     → drop (way_between len a (lo - f.long) end).mark b ≡ steps_to len (asked_way (way_between len a (lo - f.long) end).path.steps.items asked) (end_place len (way_between len a (lo - f.long) end).path + d)
     → 0 < length (asked_way (way_between len a (lo - f.long) end).path.steps.items asked)
     → end_place len (way_between len a (lo - f.long) end).path + d ≤ total len (asked_way (way_between len a (lo - f.long) end).path.steps.items asked)
     → kept_train len t f b lo hi (end + d) at report (last + 1) answered ≡ lengthened len asked d (kept_train len t f a lo hi end at report last answered)
-kept_lengthened line first len asked t f a b lo hi end d at report last answered g h order u v items some within =
+kept_lengthened len asked t f a b lo hi end d at report last answered cut order room items some within =
     let rear = lo - f.long in
-    let same = between_same line first len b a rear end h g order v u in
-    let one = between_before line first len a g rear end order u in
-    let two = between_before line first len b h rear end order v in
-    let begins = ap (total len) two ∙ (ap (λ (x : PlainWay). total len (track_from line first x.mark)) same ∙ sym (ap (total len) one)) in
+    let same = sym (between_cut len b rear end end order (omega arith) room) ∙ ap (λ xs. way_between len xs rear end) (sym cut) in
+    let begins = sym (begin_cut len b rear end order room) ∙ ap (λ xs. begin_of len xs rear) (sym cut) in
     kept_longer len asked t f a b lo hi end d at report last answered begins
-    (longer_way len b (asked_way (way_between len a rear end).path.steps.items asked) rear end d (way_between len a rear end) same order v items some within)
+    (longer_way len b (asked_way (way_between len a rear end).path.steps.items asked) rear end d (way_between len a rear end) same order room items some within)
 
 -- An authority that ends where the longest does.
-module _ (line : Line) (t : ℕ) (s : Story) (valid : is_line line ≡ true) (sound : Sound line t s) (c : controls (zone_id line) t s ≡ true) (a : Authority) (is : AuthorityIs line t s a) (end : longest_end line t s ≡ track_end line t s a) where
-  abbrev n : ℕ
-  n = a.mark + length a.path.steps.items
-
-  pub route_reaches : longest_end line t s ≤ total (seg_len line) (track line t s (a.mark + length a.path.steps.items))
-  route_reaches = let e = end_on_track line t s a is in omega (arith, e, end)
-
+module _ (line : Line) (t : ℕ) (s : Story) (valid : is_line line ≡ true) (sound : Sound line t s) (c : controls (zone_id line) t s ≡ true) (a : Authority) (is : AuthorityIs line t s a) (end : longest_end line t s ≡ authority_end (seg_len line) (journey line t s) a) where
   -- what is kept lies on its route
-  pub route_kept : zone_train line t s ≡ Some (kept_train (seg_len line) t (known_facts (zone_id line) t s) (track line t s (a.mark + length a.path.steps.items)) (sound.fronts c).lo (sound.fronts c).hi (longest_end line t s)
+  pub route_kept : zone_train line t s ≡ Some (kept_train (seg_len line) t (known_facts (zone_id line) t s) (route (journey line t s) a) (sound.fronts c).lo (sound.fronts c).hi (longest_end line t s)
       (now_of (zone_id line) s) (report_time line (zone_id line) t s) (last_issued t s) (counted line t s))
   route_kept =
-      let w = way_of line t s valid sound c in
-      let order = w.order in
-      let ordered = w.ordered in
-      let within = w.within in
       zone_kept line t s valid sound c
-      ∙ ap (λ (x : ZoneTrain). Some x) (kept_same line (first_entry t s) (seg_len line) t (known_facts (zone_id line) t s) (longest_route line t s) (track line t s n) (sound.fronts c).lo (sound.fronts c).hi (longest_end line t s)
-      (now_of (zone_id line) s) (report_time line (zone_id line) t s) (last_issued t s) (counted line t s) w.front (track_front line (first_entry t s) n) (omega (arith, order, ordered, within)) w.room route_reaches)
+      ∙ ap (λ (xs : List DirSeg). Some (kept_train (seg_len line) t (known_facts (zone_id line) t s) xs (sound.fronts c).lo (sound.fronts c).hi (longest_end line t s)
+      (now_of (zone_id line) s) (report_time line (zone_id line) t s) (last_issued t s) (counted line t s))) (longest_on line t s sound.authorized c a is end)
 
   -- it has all steps up to the end
   pub route_steps : length (steps_to (seg_len line) (longest_route line t s) (longest_end line t s)) ≤ a.mark + length a.path.steps.items
   route_steps =
-      let f = control_of line t s valid sound c in
-      let k = (one_route line t s valid sound.motion sound.authorized c).lies a is in
-      let e : authority_end (seg_len line) (journey line t s) a ≡ longest_end line t s = end_is line t s valid f.step f.first (portal_on_line line f.step valid f.portal) a is ∙ sym end in
-      let n = ap (λ (xs : List DirSeg). length xs) (k.on ∙ ap (steps_to (seg_len line) (longest_route line t s)) e) in
+      let n = ap (λ (xs : List DirSeg). length xs) (sym (kept_cut line t s sound.authorized c) ∙ longest_on line t s sound.authorized c a is end) in
       let l = length-append (take a.mark (journey line t s)) a.path.steps.items in
-      let m = length-take-le a.mark (journey line t s) k.mark in
+      let m = length-take a.mark (journey line t s) in
       omega (arith, n, l, m)

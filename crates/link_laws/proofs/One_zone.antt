@@ -1,8 +1,7 @@
 -- The zone of a valid line of one zone.
-use Rattle.std.proofs.Common.{◌≡◌, ℕ, zero, suc, ◌+◌, ◌≤◌, List, [], ◌∷◌, ◌++◌, Bool, true, false, refl, sym, ◌∙◌, ap, arith, append_assoc}
+use Rattle.std.proofs.Common.{◌≡◌, ℕ, zero, suc, ◌+◌, ◌≤◌, List, [], ◌∷◌, ◌++◌, Bool, true, false, refl, sym, ◌∙◌, ap, subst, arith, append_assoc}
 use Rattle.std.proofs.lemmas.Bool.Decides.{nat_tests}
 use Rattle.std.proofs.lemmas.Bool.{eqb-true}
-use Rattle.std.specs.Prelude.{nat_eq, count_by, cond}
 use Rattle.std.proofs.lemmas.List.Folds.{list_any-append}
 use Rattle.std.specs.Prelude.{nat_eq, count_by, cond}
 use Rattle.std.proofs.lemmas.List.Sums.{sum_by-cons}
@@ -10,22 +9,22 @@ use Rattle.std.specs.List.{list_any}
 use Rattle.track_points.proofs.Some.{by_test}
 use Rattle.definitions.specs.declared.item.Item.{Item}
 use Rattle.definitions.specs.declared.item.Item.TheVariants.{Zone, Segment, Joint, Portal, Buffer, Silent}
-use Rattle.definitions.specs.Track.{Line, ranged, has_zone, has_segment, is_zone, zone_of, is_actor}
+use Rattle.definitions.specs.Track.{Line, has_zone, has_segment, is_zone, zone_of, is_actor}
+use Rattle.definitions.specs.Story.{Story}
+use Rattle.definitions.specs.Numbers.{least}
 use Rattle.definitions.specs.Rules.{rule_of, is_any_zone, builds, finish_rule}
 use Rattle.definitions.specs.Safe.{IsLineOfOneZone}
-use Rattle.plain_state.specs.Plain.{zone_id}
+use Rattle.plain_state.specs.Zone.{PlainZone}
+use Rattle.definitions.proofs.Unbroken.{unbroken}
+use Rattle.plain_state.specs.Plain.{Plain, is_link, zone_id}
+use Rattle.plain_state.specs.Relation.{ZoneLinked, Linked}
 use Rattle.motion_laws.proofs.Notions.{both, or_left}
 use Rattle.way_laws.proofs.Lines.{builds_step, line_builds}
 
 -- The zone of a valid line is 1 to 16.
 
 zone_ranged : (before : List Item) (z : ℕ) → rule_of before (Zone z) ≡ 0 → (1 ≤ z) × (z ≤ 16)
-unfolding rule_of
-zone_ranged before z h = by_test (has_zone before z)
-    (λ y. absurd (let e : 2 ≡ 0 = rw y at h in cc))
-    (λ n. by_test (ranged 1 16 z)
-    (λ y. (grind (arith, nat_tests), grind (arith, nat_tests)))
-    (λ x. absurd (let e : 4 ≡ 0 = rw (n, x) at h in cc)))
+zone_ranged before z h = let w = (unbroken before (Zone z) h).within in (grind (arith, nat_tests), grind (arith, nat_tests))
 
 zone_above : (items before : List Item) → builds before items ≡ true → list_any is_any_zone items ≡ true → (1 ≤ zone_id items) × (zone_id items ≤ 16)
 unfolding builds zone_id
@@ -38,7 +37,7 @@ zone_above (Buffer x ∷ items) before b h = zone_above items (before ++ Buffer 
 zone_above (Silent ms ∷ items) before b h = zone_above items (before ++ Silent ms ∷ []) (both (nat_eq (rule_of before (Silent ms)) 0) _ b).1 h
 
 some_zone : (line : Line) → finish_rule line ≡ 0 → list_any is_any_zone line ≡ true
-unfolding finish_rule
+unfolding finish_rule least
 some_zone line h = by_test (list_any is_any_zone line) (λ y. y) (λ n. absurd (let e : 1 ≡ 0 = rw n at h in cc))
 
 zone_within : (line : Line) → IsLineOfOneZone line → (1 ≤ zone_id line) × (zone_id line ≤ 16)
@@ -68,10 +67,7 @@ zone_declared_there line l = zone_there line (some_zone line (eqb-true (finish_r
 
 -- a declared segment's zone is declared
 segment_zone : (before : List Item) (s z len : ℕ) → rule_of before (Segment s z len) ≡ 0 → has_zone before z ≡ true
-unfolding rule_of
-segment_zone before s z len h = by_test (has_zone before z)
-    (λ y. y)
-    (λ n. by_test (has_segment before s) (λ y. absurd (let e : 2 ≡ 0 = rw y at h in cc)) (λ m. absurd (let e : 3 ≡ 0 = rw (m, n) at h in cc)))
+segment_zone before s z len h = let k = (unbroken before (Segment s z len) h).known in grind arith
 
 zone_declared : (items before : List Item) (s : ℕ) → builds before items ≡ true → has_segment items s ≡ true → has_zone (before ++ items) (zone_of items s) ≡ true
 unfolding zone_of
@@ -144,3 +140,26 @@ pub world_sent : (line : Line) (z from : ℕ) → IsLineOfOneZone line → nat_e
 world_sent line z zero l other a b = refl
 world_sent line z (suc y) l other a b =
     absurd (let c = actor_zone line z l a in let d = actor_zone line y l b in let same : nat_eq (suc z) (suc y) ≡ true = grind (arith, nat_tests) in cc)
+
+-- its links
+pub link_to_zone : (line : Line) → IsLineOfOneZone line → is_link line (zone_id line) 0 ≡ true
+link_to_zone line l =
+    let p = zone_positive line l in
+    let other : nat_eq (zone_id line) 0 ≡ false = grind (arith, nat_tests) in
+    let there = zone_declared_there line l in
+    rw (other, there) refl
+
+pub link_to_world : (line : Line) → IsLineOfOneZone line → is_link line 0 (zone_id line) ≡ true
+link_to_world line l =
+    let p = zone_positive line l in
+    let one : nat_eq 0 (zone_id line) ≡ false = grind (arith, nat_tests) in
+    let other : nat_eq (zone_id line) 0 ≡ false = grind (arith, nat_tests) in
+    let there = zone_declared_there line l in
+    rw (one, other, there) refl
+
+-- what the relation says of it, and of each zone what it says of it
+pub the_zone : (line : Line) (s : Story) (p : Plain) → IsLineOfOneZone line → Linked line s p → ZoneLinked line (zone_id line) s (p.zones (zone_id line))
+the_zone line s p l k = k.zones (zone_id line) (zone_declared_there line l)
+
+pub each_zone : (line : Line) (s : Story) (zones : ℕ → PlainZone) → IsLineOfOneZone line → ZoneLinked line (zone_id line) s (zones (zone_id line)) → (z : ℕ) → has_zone line z ≡ true → ZoneLinked line z s (zones z)
+each_zone line s zones l k z h = subst (λ (n : ℕ). ZoneLinked line n s (zones n)) (sym (zone_only line z l.one h)) k

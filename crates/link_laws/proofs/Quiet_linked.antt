@@ -1,5 +1,5 @@
 -- The plain state follows a message that the zone takes and that makes fronts grow alone, and the last authority issued again.
-use Rattle.std.proofs.Common.{◌≡◌, ℕ, suc, ◌+◌, ◌-◌, ◌<◌, ◌≤◌, List, ◌∷◌, take, Option, Some, true, false, refl, sym, ◌∙◌, ap, subst, arith}
+use Rattle.std.proofs.Common.{◌≡◌, ℕ, suc, ◌+◌, ◌-◌, ◌<◌, ◌≤◌, List, ◌∷◌, take, Some, true, false, refl, sym, ◌∙◌, ap, subst, arith}
 use Rattle.std.proofs.lemmas.Bool.Decides.{nat_tests}
 use Rattle.std.proofs.lemmas.Bool.{eqb-true}
 use Rattle.std.proofs.Math.Bool.{and-false}
@@ -11,10 +11,10 @@ use Rattle.track_points.proofs.Some.{by_test}
 use Rattle.definitions.specs.declared.message.Msg.{Msg}
 use Rattle.definitions.specs.declared.message.Msg.TheVariants as msg
 use Rattle.definitions.specs.declared.outcome.Outcome.{Outcome}
-use Rattle.definitions.specs.Track.{Line, seg_len, track_from}
+use Rattle.definitions.specs.Track.{Line, seg_len}
 use Rattle.definitions.specs.Ways.{PlainWay, way_between}
 use Rattle.definitions.specs.Story.{Entry as Made, Story, greatest_in, greatest_issued}
-use Rattle.definitions.specs.World.{first_entry, auth_number}
+use Rattle.definitions.specs.World.{auth_number, head, journey}
 use Rattle.definitions.specs.Control.{grants_entry, asker, controls, known_facts, known_trains, now_with, last_issued}
 use Rattle.definitions.specs.Longest.{longest_end, longest_route}
 use Rattle.definitions.specs.Fronts.{possible_front, is_used}
@@ -26,26 +26,25 @@ use Rattle.plain_state.specs.Plain.{Plain, zone_id}
 use Rattle.plain_state.specs.Relation.{zone_train, ids, Distinct, Linked}
 use Rattle.motion_laws.proofs.Issued.{AllIn, AllIssued}
 use Rattle.way_laws.proofs.Between_places.{between_end}
-use Rattle.way_laws.proofs.Between_moved.{between_before}
-use Rattle.sound_laws.proofs.Sound.{mark_place, track_end, most_to, AuthIs, Sound}
-use Rattle.authority_laws.proofs.Unshrunk.{answers, counted_unanswered}
-use Rattle.authority_laws.proofs.Most_of.{greatest_none}
+use Rattle.motion_laws.proofs.Controls.{controls_same}
+use Rattle.journey_laws.proofs.Journey.{journey_still}
+use Rattle.sound_laws.proofs.Sound.{end_read, AuthIs, Sound}
+use Rattle.sound_laws.proofs.One_route.{last_end}
+use Rattle.front_laws.proofs.Unshrunk.{answers, counted_unanswered}
+use Rattle.authority_laws.proofs.Last_issued.{greatest_none}
 use Rattle.link_laws.proofs.World_trains.{mapped}
 use Rattle.link_laws.proofs.Zone_values.{Grown}
-use Rattle.link_laws.proofs.Way_of.{way_of}
+use Rattle.link_laws.proofs.Way_of.{way_of, way_before}
+use Rattle.motion_laws.proofs.Known_trains.{known_still}
 use Rattle.link_laws.proofs.Heeded.{way_steps}
-use Rattle.link_laws.proofs.Unissued.{NoAuth, end_same, controls_same}
-use Rattle.link_laws.proofs.Zone_idle.{first_same}
-use Rattle.link_laws.proofs.Zone_moves.{zone_made, ZoneMoves}
+use Rattle.link_laws.proofs.Unissued.{NoAuth, end_same}
+use Rattle.link_laws.proofs.Zone_moves.{zone_made, zone_heads, ZoneMoves}
 use Rattle.link_laws.proofs.Zone_behind.{steps_same, controlled_still, zone_still, zone_silent}
-
-pub known_still : (z : ℕ) (x : Made) (s : Story) → grants_entry z (asker x.took) x ≡ false → known_trains z (x ∷ s) ≡ known_trains z s
-unfolding known_trains
-known_still z x s h = rw h refl
 
 -- what is left where no train comes in, and the end of each stays where it was
 pub record Stays (line : Line) (s : Story) (x : Made) : Type 0 where
   pub grants : (t : ℕ) → grants_entry (zone_id line) t x ≡ false
+  pub heads : (t : ℕ) → head t s ≤ head t (x ∷ s)
   pub few : (t : ℕ) → greatest_in (auth_number t) x.issued ≤ last_issued t s + 1
   pub ends : (t : ℕ) → controls (zone_id line) t s ≡ true → longest_end line t (x ∷ s) ≡ longest_end line t s
 
@@ -59,16 +58,17 @@ stay_moves line x s p trains one k sound after h found known distinct = record {
   few = h.few;
   steps = λ t c2.
       let c = sym (controls_same (zone_id line) t x s (h.grants t)) ∙ c2 in
-      let a = steps_same line t x s one (sound t) (after t) c c2 (h.ends t c) in
+      let a = steps_same line t x s (sound t) (after t) c c2 (h.heads t) (h.ends t c) in
       let b = way_steps line s p one k sound t c in
       omega (arith, a, b);
 }
 
-pub silent_stays : (line : Line) (x : Made) (s : Story) → ((t : ℕ) → Sound line t s) → ((t : ℕ) → Sound line t (x ∷ s)) → ((t : ℕ) → grants_entry (zone_id line) t x ≡ false) → ((t : ℕ) → NoAuth t x.issued) → Stays line s x
-silent_stays line x s sound after grants silent = record {
+pub silent_stays : (line : Line) (x : Made) (s : Story) → ((t : ℕ) → Sound line t s) → ((t : ℕ) → Sound line t (x ∷ s)) → ((t : ℕ) → grants_entry (zone_id line) t x ≡ false) → ((t : ℕ) → head t s ≤ head t (x ∷ s)) → ((t : ℕ) → NoAuth t x.issued) → Stays line s x
+silent_stays line x s sound after grants heads silent = record {
   grants = grants;
+  heads = heads;
   few = λ t. let n = greatest_none t x.issued (silent t) in omega (arith, n);
-  ends = λ t c. end_same line t x s (silent t) (sound t) (after t) c (controls_same (zone_id line) t x s (grants t) ∙ c) (first_same line t x s (sound t) c);
+  ends = λ t c. end_same line t x s (silent t) (sound t) (after t) c (controls_same (zone_id line) t x s (grants t) ∙ c) (heads t);
 }
 
 -- nothing but growth
@@ -77,7 +77,7 @@ pub quiet_moves : (line : Line) (z number : ℕ) (m : Msg) (e : Effect) (s : Sto
     → ((t : ℕ) → grants_entry (zone_id line) t (zone_made z number m e) ≡ false) → ((t : ℕ) → NoAuth t e.issued)
     → ((t : ℕ) → is_used line (zone_id line) t s (possible_front line (zone_id line) t s) m ≡ false) → ((t : ℕ) → answers t (Some (0, m)) ≡ false) → ZoneMoves line s (zone_made z number m e) ways
 quiet_moves line z number m e s p ways one zone k sound after g grants silent unused uncounted =
-    stay_moves line (zone_made z number m e) s p ways one k sound after (silent_stays line (zone_made z number m e) s sound after grants silent)
+    stay_moves line (zone_made z number m e) s p ways one k sound after (silent_stays line (zone_made z number m e) s sound after grants (λ t. zone_heads t z number m e s) silent)
     (λ t. g.found t ∙ sym (zone_silent line z number m e s one zone t (sound t) (after t) (silent t) (grants t) (unused t) (uncounted t))) g.known g.distinct
 
 -- The last authority goes out again.
@@ -127,23 +127,25 @@ module _ (line : Line) (z number : ℕ) (time : ℕ) (u : TrainId) (s : Story) (
 
     again_end : longest_end line u.0 (zone_made z number m e ∷ s) ≡ longest_end line u.0 s
     again_end =
+        let t = u.0 in
         let len = seg_len line in
-        let v = way_of line u.0 s one.valid (sound u.0) c in
+        let v = way_of line t s one.valid (sound t) c in
         let p = v.order in
         let q = v.ordered in
         let r = v.within in
-        let order : rear < longest_end line u.0 s = omega (arith, p, q, r) in
-        let first = first_same line u.0 x s (sound u.0) c in
-        let begins : mark_place line u.0 (x ∷ s) w.mark ≡ total len (take w.mark (longest_route line u.0 s)) =
-        ap (λ (o : Option DirSeg). total len (track_from line o w.mark)) first
-        ∙ sym (ap (total len) (between_before line (first_entry u.0 s) len (longest_route line u.0 s) v.front rear (longest_end line u.0 s) order v.room)) in
-        let b = between_end len (longest_route line u.0 s) rear (longest_end line u.0 s) order v.room in
-        let far : track_end line u.0 (x ∷ s) (record { mark = w.mark; path = w.path }) ≡ longest_end line u.0 s = omega (arith, begins, b) in
-        ((after u.0).authorized.controlled c2).end ∙ (ap (λ (n : ℕ). most_to line u.0 (x ∷ s) n) again_last ∙ (sym again_is.exact ∙ far))
+        let order : rear < longest_end line t s = omega (arith, p, q, r) in
+        let begins : total len (take w.mark (journey line t (x ∷ s))) ≡ total len (take w.mark (longest_route line t s)) =
+        ap (λ (xs : List DirSeg). total len (take w.mark xs)) (journey_still line t x s refl)
+        ∙ ap (total len) (way_before line t s one.valid (sound t) c) in
+        let b = between_end len (longest_route line t s) rear (longest_end line t s) order v.room in
+        let last = last_end line t (x ∷ s) (after t).authorized c2 in
+        let read = ap (λ (n : ℕ). end_read line t (x ∷ s) n) again_last in
+        let exact = again_is.exact in
+        omega (arith, begins, b, last, read, exact)
 
     pub again_moves : (p : Plain) (ways : List ZoneTrain) → Linked line s p → Grown line s (now_with (zone_id line) s m) ways → ZoneMoves line s (zone_made z number m e) ways
     again_moves p ways k g =
-        stay_moves line x s p ways one k sound after (record { grants = again_none; few = again_few; ends = ends })
+        stay_moves line x s p ways one k sound after (record { grants = again_none; heads = λ v. zone_heads v z number m e s; few = again_few; ends = ends })
         (λ v. g.found v ∙ sym (by_test (nat_eq u.0 v)
         (λ its. subst (λ (i : ℕ). zone_train line i (x ∷ s) ≡ mapped (grown_train (now_with (zone_id line) s m)) (zone_train line i s)) (eqb-true u.0 v its)
         (zone_still line z number m e s one zone u.0 (sound u.0) (after u.0) (λ d. again_end) again_last (again_none u.0) refl (counted_unanswered line u.0 x s (sound u.0).authorized.unshrunk refl)))
@@ -152,4 +154,4 @@ module _ (line : Line) (z number : ℕ) (time : ℕ) (u : TrainId) (s : Story) (
         ends : (v : ℕ) → controls (zone_id line) v s ≡ true → longest_end line v (zone_made z number m e ∷ s) ≡ longest_end line v s
         ends v d = by_test (nat_eq u.0 v)
             (λ its. subst (λ (i : ℕ). longest_end line i (x ∷ s) ≡ longest_end line i s) (eqb-true u.0 v its) again_end)
-            (λ o. end_same line v x s (again_silent v o) (sound v) (after v) d (controls_same (zone_id line) v x s (again_none v) ∙ d) (first_same line v x s (sound v) d))
+            (λ o. end_same line v x s (again_silent v o) (sound v) (after v) d (controls_same (zone_id line) v x s (again_none v) ∙ d) (zone_heads v z number m e s))

@@ -144,7 +144,7 @@ module _ (line : Line) (z number : ℕ) (u : TrainId) (time mark : ℕ) (offset 
   used_is = by_test (controls (zone_id line) u.0 s)
       (λ c. ap (λ (y : Option ZoneTrain). uses_mark y mark) (found_grown c) ∙ mark_used c)
       (λ n.
-      let none : find_way t ways ≡ None = g.found t ∙ ap (λ (y : Option ZoneTrain). mapped (grown_train (now_with (zone_id line) s r)) y) (no_train line t s (sound t) n) in
+      let none : find_way t ways ≡ None = g.found t ∙ ap (λ (y : Option ZoneTrain). mapped (grown_train (now_with (zone_id line) s r)) y) (no_train line t s n) in
       ap (λ (y : Option ZoneTrain). uses_mark y mark) none ∙ sym (rw (itself, n) refl))
 
   used_controls : is_used line (zone_id line) u.0 s (possible_front line (zone_id line) u.0 s) (msg.Report u time mark offset integrity) ≡ true → controls (zone_id line) u.0 s ≡ true

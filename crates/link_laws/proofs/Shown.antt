@@ -5,7 +5,7 @@ use Rattle.std.specs.Prelude.{nat_eq, nat_le, is_some}
 use Rattle.track_points.specs.Points.{Point}
 use Rattle.track_points.proofs.Some.{by_test}
 use Rattle.envelope.specs.Fronts.{is_front}
-use Rattle.definitions.specs.Track.{Line, seg_len, owner}
+use Rattle.definitions.specs.Track.{Line, seg_len, layout, owner}
 use Rattle.definitions.specs.Rules.{is_line}
 use Rattle.definitions.specs.Ways.{PlainWay}
 use Rattle.definitions.specs.Story.{Story}
@@ -19,10 +19,10 @@ use Rattle.plain_state.specs.Plain.{zone_id}
 use Rattle.plain_state.specs.Relation.{way_start, zone_train_of, zone_train}
 use Rattle.way_laws.proofs.Between_places.{begin_of, behind_from}
 use Rattle.sound_laws.proofs.Sound.{Sound}
-use Rattle.link_laws.proofs.Values.{no_way, way_is_known}
+use Rattle.link_laws.proofs.Values.{way_is_known}
 use Rattle.link_laws.proofs.Kept_train.{kept_train, zone_kept}
 
-hold_of : (line : Line) (t : ℕ) (s : Story) (w : Option PlainWay) (point : Point) → hold_has line (zone_id line) (zone_train_of line (zone_id line) t s w) point ≡ (nat_eq (owner line point) (zone_id line) && way_has (seg_len line) w point)
+hold_of : (line : Line) (t : ℕ) (s : Story) (w : Option PlainWay) (point : Point) → hold_has line (zone_id line) (zone_train_of line (zone_id line) t s w) point ≡ (nat_eq (owner line point) (zone_id line) && way_has (layout line) w point)
 hold_of line t s None point = by_test (nat_eq (owner line point) (zone_id line)) (λ a. rw a refl) (λ b. rw b refl)
 hold_of line t s (Some w) point = refl
 
@@ -32,7 +32,7 @@ some_of line t s (Some w) x e = refl
 
 module _ (line : Line) (s : Story) (valid : is_line line ≡ true) (trains : List ZoneTrain) (ways : (t : ℕ) → find_way t trains ≡ zone_train line t s) (sound : (t : ℕ) → Sound line t s) where
   pub found_controls : (t : ℕ) (x : ZoneTrain) → find_way t trains ≡ Some x → controls (zone_id line) t s ≡ true
-  found_controls t x found = sym (way_is_known line t s valid (sound t)) ∙ some_of line t s (way line (zone_id line) t s) x (sym (ways t) ∙ found)
+  found_controls t x found = sym (way_is_known line (zone_id line) t s) ∙ some_of line t s (way line (zone_id line) t s) x (sym (ways t) ∙ found)
 
   pub found_kept : (t : ℕ) (x : ZoneTrain) (c : controls (zone_id line) t s ≡ true) → find_way t trains ≡ Some x
       → kept_train (seg_len line) t (known_facts (zone_id line) t s) (longest_route line t s) ((sound t).fronts c).lo ((sound t).fronts c).hi (longest_end line t s)
@@ -56,9 +56,4 @@ module _ (line : Line) (s : Story) (valid : is_line line ≡ true) (trains : Lis
   pub holds_are : (t : ℕ) (point : Point) → hold_has line (zone_id line) (find_way t trains) point ≡ held line (zone_id line) t s point
   holds_are t point =
       ap (λ (x : Option ZoneTrain). hold_has line (zone_id line) x point) (ways t)
-      ∙ (hold_of line t s (way line (zone_id line) t s) point
-      ∙ by_test (controls (zone_id line) t s)
-      (λ y. rw y refl)
-      (λ n.
-      let none = no_way line t s (sound t) n in
-      rw (n, none) (by_test (nat_eq (owner line point) (zone_id line)) (λ a. rw a refl) (λ b. rw b refl))))
+      ∙ hold_of line t s (way line (zone_id line) t s) point

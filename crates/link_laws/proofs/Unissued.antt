@@ -1,39 +1,28 @@
 -- What an event leaves that issues no authority of a train.
-use Rattle.std.proofs.Common.{◌≡◌, ℕ, List, ◌∷◌, Option, true, false, refl, sym, ◌∙◌, ap, arith}
+use Rattle.std.proofs.Common.{◌≡◌, ℕ, ◌≤◌, List, ◌∷◌, true, false, refl, arith}
 use Rattle.std.specs.Prelude.{nat_eq}
-use Rattle.track_points.specs.declared.ids.DirSeg.{DirSeg}
 use Rattle.track_points.proofs.Some.{by_test}
 use Rattle.definitions.specs.declared.message.Msg.{Msg}
 use Rattle.definitions.specs.Track.{Line}
 use Rattle.definitions.specs.Story.{Entry as Made, Story}
-use Rattle.definitions.specs.World.{is_auth, first_entry}
-use Rattle.definitions.specs.Control.{grants_entry, controls, last_issued}
+use Rattle.definitions.specs.World.{is_auth, head}
+use Rattle.definitions.specs.Control.{grants_entry, controls}
 use Rattle.definitions.specs.Longest.{longest_end}
 use Rattle.definitions.specs.Fronts.{report_time}
 use Rattle.definitions.specs.Safe.{IsLineOfOneZone}
 use Rattle.plain_state.specs.Plain.{zone_id}
-use Rattle.motion_laws.proofs.Notions.{ever_same}
 use Rattle.motion_laws.proofs.Issued.{AllIn}
-use Rattle.sound_laws.proofs.Sound.{most_issued, most_to, Sound}
-use Rattle.authority_laws.proofs.Most_of.{most_quiet, last_quiet}
+use Rattle.sound_laws.proofs.Sound.{Sound}
+use Rattle.front_laws.proofs.Route_goes_on.{end_quiet}
 use Rattle.link_laws.proofs.One_zone.{zone_positive}
 
 abbrev pub NoAuth : ℕ → List (ℕ × Msg) → Type 0
 NoAuth t issued = AllIn (λ m. is_auth t m ≡ false) issued
 
 -- the longest authority ends where it did
-pub end_same : (line : Line) (t : ℕ) (x : Made) (s : Story) → NoAuth t x.issued → Sound line t s → Sound line t (x ∷ s) → controls (zone_id line) t s ≡ true → controls (zone_id line) t (x ∷ s) ≡ true
-    → first_entry t (x ∷ s) ≡ first_entry t s → longest_end line t (x ∷ s) ≡ longest_end line t s
-end_same line t x s a sound after c d first =
-    let k = (sound.authorized.controlled c).end in
-    let m = (after.authorized.controlled d).end in
-    m
-    ∙ (ap (λ (n : ℕ). most_to line t (x ∷ s) n) (last_quiet t x s a)
-    ∙ (most_quiet line (first_entry t (x ∷ s)) t (last_issued t s) x s a
-    ∙ (ap (λ (f : Option DirSeg). most_issued line f t (last_issued t s) s) first ∙ sym k)))
-
-pub controls_same : (z t : ℕ) (x : Made) (s : Story) → grants_entry z t x ≡ false → controls z t (x ∷ s) ≡ controls z t s
-controls_same z t x s h = ever_same (λ (e : Made). grants_entry z t e) x s h
+pub end_same : (line : Line) (t : ℕ) (x : Made) (s : Story) → NoAuth t x.issued → (sound : Sound line t s) → (after : Sound line t (x ∷ s)) → controls (zone_id line) t s ≡ true → controls (zone_id line) t (x ∷ s) ≡ true
+    → head t s ≤ head t (x ∷ s) → longest_end line t (x ∷ s) ≡ longest_end line t s
+end_same line t x s a sound after c d heads = end_quiet line t s x sound.motion sound.authorized after.authorized c d heads a
 
 -- the world controls no train
 pub world_controls : (line : Line) (t : ℕ) (s : Story) → IsLineOfOneZone line → Sound line t s → controls 0 t s ≡ false

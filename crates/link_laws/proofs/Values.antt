@@ -1,19 +1,15 @@
 -- What the plain state tells of a train is what the story tells.
-use Rattle.std.proofs.Common.{◌≡◌, ℕ, ◌+◌, ◌-◌, Option, Some, None, true, false, refl, sym, ◌∙◌, ap, arith}
+use Rattle.std.proofs.Common.{◌≡◌, ℕ, ◌-◌, Option, Some, None, true, false, refl, sym, ◌∙◌, ap, arith}
 use Rattle.std.specs.Prelude.{is_some}
 use Rattle.track_points.specs.declared.ids.DirSeg.{DirSeg}
 use Rattle.track_points.specs.Points.{Lengths}
 use Rattle.track_points.proofs.Some.{by_test}
 use Rattle.definitions.specs.Track.{Line, seg_len}
-use Rattle.definitions.specs.Rules.{is_line}
 use Rattle.definitions.specs.Story.{Story}
 use Rattle.definitions.specs.Ways.{PlainWay}
-use Rattle.definitions.specs.World.{Facts, facts_or, facts_of, is_declared, error_of, speed_of, first_entry, entered, head, HeldPath, Authority, entry_authority, last_number, limit_place, journey}
+use Rattle.definitions.specs.World.{Facts, facts_or, facts_of, is_declared, error_of, speed_of, first_entry, entered, head, HeldPath, entry_authority, last_number, limit_place}
 use Rattle.definitions.specs.Control.{controls}
-use Rattle.definitions.specs.Fold.{account}
-use Rattle.definitions.specs.Longest.{longest_end, longest_route}
-use Rattle.definitions.specs.Fronts.{least_rear}
-use Rattle.definitions.specs.Authority.{way, way_or_none}
+use Rattle.definitions.specs.Authority.{way}
 use Rattle.definitions.specs.Steps.{sender_of}
 use Rattle.plain_state.specs.declared.Head.{Head}
 use Rattle.plain_state.specs.declared.WorldTrain.{WorldTrain}
@@ -22,24 +18,17 @@ use Rattle.plain_state.specs.World.{find_train, facts_found, entry_found, kept_s
 use Rattle.plain_state.specs.Plain.{Plain, zone_id}
 use Rattle.plain_state.specs.Relation.{kept_authority, head_of, world_of, Linked}
 use Rattle.sound_laws.proofs.Sound.{Sound}
-use Rattle.authority_laws.proofs.Farthest.{farthest_none}
-use Rattle.link_laws.proofs.Way_of.{way_of}
 
 -- A train that the zone does not control has no way, and one that it controls has.
 
-pub no_way : (line : Line) (t : ℕ) (s : Story) → Sound line t s → controls (zone_id line) t s ≡ false → way line (zone_id line) t s ≡ None
-no_way line t s sound n =
-    let v = account line t s in
-    let e = farthest_none (seg_len line) (journey line t s) v.reads v.counted (v.issued + 1 - v.counted) (sound.authorized.unread n) in
-    ap (λ (a : Option Authority). way_or_none (seg_len line) a (longest_route line t s) (least_rear line (zone_id line) t s) (longest_end line t s)) e
+pub no_way : (line : Line) (z t : ℕ) (s : Story) → controls z t s ≡ false → way line z t s ≡ None
+no_way line z t s n = rw n refl
 
-pub way_is_known : (line : Line) (t : ℕ) (s : Story) → is_line line ≡ true → Sound line t s → is_some (way line (zone_id line) t s) ≡ controls (zone_id line) t s
-way_is_known line t s valid sound = by_test (controls (zone_id line) t s)
-    (λ y. ap (λ (x : Option PlainWay). is_some x) ((way_of line t s valid sound y).is) ∙ sym y)
-    (λ n. ap (λ (x : Option PlainWay). is_some x) (no_way line t s sound n) ∙ sym n)
+pub way_is_known : (line : Line) (z t : ℕ) (s : Story) → is_some (way line z t s) ≡ controls z t s
+way_is_known line z t s = by_test (controls z t s) (λ y. rw y refl) (λ n. rw n refl)
 
-pub no_way_unknown : (line : Line) (t : ℕ) (s : Story) → is_line line ≡ true → Sound line t s → way line (zone_id line) t s ≡ None → controls (zone_id line) t s ≡ false
-no_way_unknown line t s valid sound h = sym (way_is_known line t s valid sound) ∙ ap (λ (x : Option PlainWay). is_some x) h
+pub no_way_unknown : (line : Line) (z t : ℕ) (s : Story) → way line z t s ≡ None → controls z t s ≡ false
+no_way_unknown line z t s h = sym (way_is_known line z t s) ∙ ap (λ (x : Option PlainWay). is_some x) h
 
 -- What is found of a train of the world.
 

@@ -7,9 +7,9 @@ use Rattle.track_points.specs.declared.ids.TrainId.{TrainId}
 use Rattle.track_points.proofs.Some.{by_test}
 use Rattle.definitions.specs.declared.event.Event.TheVariants.{Train, Entry}
 use Rattle.definitions.specs.declared.event.Kind.{Kind}
-use Rattle.definitions.specs.Track.{Line, seg_len, track_to}
+use Rattle.definitions.specs.Track.{Line, seg_len, led}
 use Rattle.definitions.specs.Story.{Entry as Made, Story, or_else, first_told}
-use Rattle.definitions.specs.World.{Facts, facts_or, facts_in, facts_of, is_declared, entry_in, first_entry, enters, entered, mm_of, moved, head, long_of, HeldPath, entry_authority, last_number, limit_held, limit_place, held_end, clock, journey}
+use Rattle.definitions.specs.World.{Facts, facts_in, facts_of, is_declared, first_entry, enters, entered, head, HeldPath, entry_authority, last_number, limit_held, limit_place, clock, journey}
 use Rattle.definitions.specs.World as ts
 use Rattle.definitions.specs.Steps.{Effect, nothing, requesting, made}
 use Rattle.definitions.specs.Safe.{IsLineOfOneZone}
@@ -21,16 +21,14 @@ use Rattle.plain_state.specs.Plain.{Plain, by_world as world_next}
 use Rattle.plain_state.specs.Relation.{kept_authority, head_of, world_of, world_train, Linked}
 use Rattle.motion_laws.proofs.Notions.{told_now, entered_same}
 use Rattle.motion_laws.proofs.Issued.{AllIn}
-use Rattle.definitions.specs.Rules.{is_line}
-use Rattle.way_laws.proofs.Lines.{portal_on_line}
-use Rattle.motion_laws.proofs.Stays.{first_stays}
-use Rattle.journey_laws.proofs.Journey.{journey_track}
+use Rattle.journey_laws.proofs.Journey.{journey_ends, journey_led, led_still}
 use Rattle.sound_laws.proofs.Sound.{Sound}
-use Rattle.front_laws.proofs.Heads.{on_controls}
+use Rattle.sound_laws.proofs.One_route.{on_controls}
+use Rattle.sound_laws.proofs.First_steps.{controlled_some, controlled_reaches}
 use Rattle.link_laws.proofs.World_trains.{mapped, find_change, find_other, find_append, length_change, length_append}
 use Rattle.link_laws.proofs.Values.{no_entry_authority, no_number}
 use Rattle.link_laws.proofs.Unissued.{NoAuth}
-use Rattle.link_laws.proofs.World_moves.{head_still, last_still, limit_still, authority_still, facts_still, entry_still, world_same, undeclared_before, unasked_same, off_same, authorized_same, as_many, world_linked}
+use Rattle.link_laws.proofs.World_moves.{head_still, heads_still, last_still, limit_still, authority_still, facts_still, entry_still, world_same, undeclared_before, unasked_same, off_same, authorized_same, as_many, world_linked}
 use Rattle.link_laws.proofs.Limits.{off_limit}
 
 -- A train is declared.
@@ -94,6 +92,7 @@ train_linked line u long error speed kind s p one first k sound after =
       time = k.time ∙ clock_still x s refl;
       found = λ t. train_found line t u long error speed kind s p first k (sound t);
       silent = λ t. tt;
+      heads = λ t. heads_still t x s refl refl;
       count = length_append p.world.trains (new_train u long error speed) ∙ (ap (λ (n : ℕ). suc n) k.count ∙ sym (one_more u long error speed kind s));
       unasked = λ t. unasked_same t x s refl (k.unasked t);
       stays_off = λ t. off_same t x s refl (k.stays_off t);
@@ -119,32 +118,33 @@ unfolding first_told
 first_next t ms u step zone f s its = rw its refl
 
 -- the head and the room of a train on the line do not change with a further request
-same_journey : (line : Line) (t : ℕ) (x : Made) (s : Story) → is_line line ≡ true → Sound line t s → entered t s ≡ true → head t (x ∷ s) ≡ head t s → journey line t (x ∷ s) ≡ journey line t s
-same_journey line t x s valid sound on same =
-    let k = sound.authorized.controlled (on_controls line t s sound on) in
-    let here = portal_on_line line k.step valid k.portal in
-    journey_track line t k.step valid here (x ∷ s) (first_stays t x s k.step k.first)
-    ∙ ap (λ (p : ℕ). track_to line (Some k.step) p) same
-    ∙ sym (journey_track line t k.step valid here s k.first)
+same_journey : (line : Line) (t : ℕ) (x : Made) (s : Story) → Sound line t s → entered t s ≡ true → head t (x ∷ s) ≡ head t s → journey line t (x ∷ s) ≡ journey line t s
+same_journey line t x s sound on same =
+    let c = on_controls line t s sound.authorized on in
+    let some = controlled_some line t s sound.authorized c sound.motion in
+    let room = controlled_reaches line t s sound.authorized c sound.motion in
+    journey_led line t x s some room
+    ∙ ap (led (seg_len line) line (journey line t s)) same
+    ∙ led_still line (journey line t s) (head t s) some room (journey_ends line t s)
 
-same_head : (line : Line) (t : ℕ) (x : Made) (s : Story) → is_line line ≡ true → Sound line t s → enters t x.event ≡ false → head t (x ∷ s) ≡ head t s → limit_held t (x ∷ s) ≡ limit_held t s
+same_head : (line : Line) (t : ℕ) (x : Made) (s : Story) → Sound line t s → enters t x.event ≡ false → head t (x ∷ s) ≡ head t s → limit_held t (x ∷ s) ≡ limit_held t s
     → (head_of line t (x ∷ s) ≡ head_of line t s) × (limit_place line t (x ∷ s) ≡ limit_place line t s)
-same_head line t x s valid sound off same limit = by_test (entered t s)
+same_head line t x s sound off same limit = by_test (entered t s)
     (λ on.
-    let j = same_journey line t x s valid sound on same in
+    let j = same_journey line t x s sound on same in
     (rw (entered_same t x s off, j, same) refl, rw (j, limit) refl))
     (λ n.
     let none = off_limit t s n in
     (rw (entered_same t x s off, n) refl, rw (limit, none) refl))
 
-entry_found_now : (line : Line) (t ms : ℕ) (u : TrainId) (step : DirSeg) (zone : ℕ) (f : Option Facts) (s : Story) (p : Plain) → is_line line ≡ true → Linked line s p → Sound line t s
+entry_found_now : (line : Line) (t ms : ℕ) (u : TrainId) (step : DirSeg) (zone : ℕ) (f : Option Facts) (s : Story) (p : Plain) → Linked line s p → Sound line t s
     → find_train t (change_train u.0 (asked_at_portal step) p.world.trains) ≡ world_train line t (entry_entry ms u step zone f ∷ s)
-entry_found_now line t ms u step zone f s p valid k sound =
+entry_found_now line t ms u step zone f s p k sound =
     let x = entry_entry ms u step zone f in
     by_test (nat_eq u.0 t)
     (λ its.
     let same : u.0 ≡ t = eqb-true u.0 t its in
-    let parts = same_head line t x s valid sound refl (head_still t x s refl refl) (limit_still t x s refl refl) in
+    let parts = same_head line t x s sound refl (head_still t x s refl refl) (limit_still t x s refl refl) in
     ap (λ (n : ℕ). find_train t (change_train n (asked_at_portal step) p.world.trains)) same
     ∙ (find_change t (asked_at_portal step) p.world.trains (λ y. refl)
     ∙ (ap (λ (y : Option WorldTrain). mapped (asked_at_portal step) y) (k.trains t)
@@ -167,8 +167,9 @@ entry_linked line ms u step zone f s p y one declared k sound after is =
     world_linked line s p x p.world.clock (change_train u.0 (asked_at_portal step) p.world.trains) y one k (record {
       by_world = refl;
       time = k.time ∙ clock_still x s refl;
-      found = λ t. entry_found_now line t ms u step zone f s p one.valid k (sound t);
+      found = λ t. entry_found_now line t ms u step zone f s p k (sound t);
       silent = λ t. entry_silent t ms u step zone f;
+      heads = λ t. heads_still t x s refl refl;
       count = length_change u.0 (asked_at_portal step) p.world.trains ∙ (k.count ∙ sym (as_many x s refl));
       unasked = λ t d. by_test (nat_eq u.0 t)
           (λ its.

@@ -1,38 +1,28 @@
 -- What an entry of the world leaves of the plain state, and which trains it leaves as they are.
-use Rattle.std.proofs.Common.{◌≡◌, ℕ, ◌-◌, max, List, ◌∷◌, ◌++◌, length, Option, Some, None, Bool, true, false, refl, sym, ◌∙◌, ap, arith, if◌then◌else◌}
+use Rattle.std.proofs.Common.{◌≡◌, ℕ, ◌≤◌, max, List, ◌∷◌, ◌++◌, length, Option, Some, None, true, false, refl, sym, ◌∙◌, ap, subst, arith}
 use Rattle.std.proofs.lemmas.Bool.Decides.{nat_tests}
 use Rattle.std.specs.Prelude.{nat_eq, nat_lt, is_some}
-use Rattle.track_points.specs.declared.ids.DirSeg.{DirSeg}
-use Rattle.track_points.specs.Points.{offset_to}
 use Rattle.track_points.proofs.Some.{by_test}
 use Rattle.definitions.specs.declared.message.Msg.{Msg}
-use Rattle.definitions.specs.Track.{Line, seg_len, track_to, last_step}
+use Rattle.definitions.specs.Track.{Line}
 use Rattle.definitions.specs.Story.{Entry as Made, Story, or_else, to_actor, sent, first_told, world_took}
-use Rattle.definitions.specs.World.{Facts, facts_in, facts_of, is_declared, entry_in, first_entry, enters, entered, moved, head, taken_number, taken_entry, HeldPath, entry_authority, last_number, limit_held, limit_place, held_end, clock, journey}
+use Rattle.definitions.specs.World.{facts_in, facts_of, is_declared, entry_in, first_entry, enters, entered, moved, head, taken_number, taken_entry, entry_authority, last_number, limit_held, clock}
 use Rattle.definitions.specs.World as ts
 use Rattle.definitions.specs.Steps.{Effect}
 use Rattle.definitions.specs.Safe.{IsLineOfOneZone}
-use Rattle.plain_state.specs.declared.Head.{Head}
 use Rattle.plain_state.specs.declared.WorldTrain.{WorldTrain}
 use Rattle.plain_state.specs.World.{find_train}
-use Rattle.plain_state.specs.Zone.{find_way, hold_has}
-use Rattle.plain_state.specs.Plain.{Plain, zone_id, by_world as world_next}
-use Rattle.plain_state.specs.Relation.{world_train, zone_train, Linked}
+use Rattle.plain_state.specs.Zone.{PlainZone, find_way, hold_has}
+use Rattle.plain_state.specs.Plain.{Plain, zone_id, posted, by_world as world_next}
+use Rattle.plain_state.specs.Relation.{world_train, zone_train, ZoneLinked, Linked}
 use Rattle.motion_laws.proofs.Notions.{same_told, entered_same}
 use Rattle.journey_laws.proofs.Journey.{journey_still}
 use Rattle.sound_laws.proofs.Sound.{Sound}
-use Rattle.authority_laws.proofs.Most_of.{last_quiet}
+use Rattle.link_laws.proofs.One_zone.{the_zone, each_zone}
+use Rattle.authority_laws.proofs.Last_issued.{last_quiet}
 use Rattle.link_laws.proofs.Shown.{fronts_are, holds_are}
 use Rattle.link_laws.proofs.Unissued.{NoAuth}
-use Rattle.link_laws.proofs.Zone_idle.{idle, known_idle, now_still, zone_idle}
-
--- A train of the world by its parts.
-
-abbrev pub head_at : Line → Option DirSeg → Bool → ℕ → Option Head
-head_at line first on at =
-    if on
-    then Some (record { step = last_step (track_to line first at); mark = length (track_to line first at) - 1; offset = offset_to (seg_len line) (track_to line first at) at })
-    else None
+use Rattle.link_laws.proofs.Zone_idle.{known_idle, now_still, zone_idle}
 
 -- What an entry leaves of a train of the world that it does not speak of.
 pub record StillWorld (t : ℕ) (x : Made) : Type 0 where
@@ -45,6 +35,9 @@ pub record StillWorld (t : ℕ) (x : Made) : Type 0 where
 pub head_still : (t : ℕ) (x : Made) (s : Story) → enters t x.event ≡ false → moved t x.event ≡ 0 → head t (x ∷ s) ≡ head t s
 unfolding head
 head_still t x s off none = rw (off, none) (omega arith)
+
+pub heads_still : (t : ℕ) (x : Made) (s : Story) → enters t x.event ≡ false → moved t x.event ≡ 0 → head t s ≤ head t (x ∷ s)
+heads_still t x s off none = let h = head_still t x s off none in omega (arith, h)
 
 pub last_still : (t : ℕ) (x : Made) (s : Story) → enters t x.event ≡ false → taken_number t (world_took x) ≡ 0 → last_number t (x ∷ s) ≡ last_number t s
 unfolding last_number
@@ -104,13 +97,23 @@ authorized_same t x s h old d = authority_stays t x s (old (sym (entered_same t 
 
 -- Links.
 
-pub sent_by : (from to : ℕ) (x : Made) (s : Story) → nat_eq x.actor from ≡ true → sent from to (x ∷ s) ≡ sent from to s ++ to_actor to x.issued
+sent_by : (from to : ℕ) (x : Made) (s : Story) → nat_eq x.actor from ≡ true → sent from to (x ∷ s) ≡ sent from to s ++ to_actor to x.issued
 unfolding sent
 sent_by from to x s h = rw h refl
 
-pub sent_else : (from to : ℕ) (x : Made) (s : Story) → nat_eq x.actor from ≡ false → sent from to (x ∷ s) ≡ sent from to s
+sent_else : (from to : ℕ) (x : Made) (s : Story) → nat_eq x.actor from ≡ false → sent from to (x ∷ s) ≡ sent from to s
 unfolding sent
 sent_else from to x s h = rw h refl
+
+-- what an actor's step puts onto its links
+pub posted_sent : (actor from to : ℕ) (x : Made) (s : Story) (y : Effect) (links : ℕ → ℕ → List Msg) → x.actor ≡ actor → y.issued ≡ x.issued → links from to ≡ sent from to s → posted actor y links from to ≡ sent from to (x ∷ s)
+posted_sent actor from to x s y links acts is told = by_test (nat_eq x.actor from)
+    (λ h.
+    let here : nat_eq actor from ≡ true = subst (λ (n : ℕ). nat_eq n from ≡ true) acts h in
+    rw here (ap (λ (ms : List Msg). ms ++ to_actor to y.issued) told ∙ (ap (λ (issued : List (ℕ × Msg)). sent from to s ++ to_actor to issued) is ∙ sym (sent_by from to x s h))))
+    (λ h.
+    let other : nat_eq actor from ≡ false = subst (λ (n : ℕ). nat_eq n from ≡ false) acts h in
+    rw other (told ∙ sym (sent_else from to x s h)))
 
 -- an entry that declares no train
 pub as_many : (x : Made) (s : Story) → ts.with_train x.event (ts.trains s) ≡ ts.trains s → length (ts.trains (x ∷ s)) ≡ length (ts.trains s)
@@ -123,35 +126,38 @@ pub record WorldMoves (line : Line) (s : Story) (x : Made) (ms : ℕ) (trains : 
   pub time : ms ≡ clock (x ∷ s)
   pub found : (t : ℕ) → find_train t trains ≡ world_train line t (x ∷ s)
   pub silent : (t : ℕ) → NoAuth t x.issued
+  pub heads : (t : ℕ) → head t s ≤ head t (x ∷ s)
   pub count : length trains ≡ length (ts.trains (x ∷ s))
   pub unasked : (t : ℕ) → is_declared t (x ∷ s) ≡ false → first_entry t (x ∷ s) ≡ None
   pub stays_off : (t : ℕ) → is_declared t (x ∷ s) ≡ false → entered t (x ∷ s) ≡ false
   pub authorized : (t : ℕ) → entered t (x ∷ s) ≡ true → is_some (entry_authority t (x ∷ s)) ≡ true
 
+-- an entry of the world leaves the zone as it is
+zone_stays : (line : Line) (s : Story) (z : PlainZone) (x : Made) → IsLineOfOneZone line → ZoneLinked line (zone_id line) s z → x.actor ≡ 0 → ((t : ℕ) → NoAuth t x.issued) → ((t : ℕ) → head t s ≤ head t (x ∷ s))
+    → ((t : ℕ) → Sound line t s) → ((t : ℕ) → Sound line t (x ∷ s)) → ZoneLinked line (zone_id line) (x ∷ s) z
+zone_stays line s z x one k world silent heads sound after =
+    let ways : (t : ℕ) → find_way t z.trains ≡ zone_train line t (x ∷ s) = λ t. k.ways t ∙ sym (zone_idle line x s one world t (silent t) (sound t) (after t) (heads t)) in
+    record {
+      id = k.id;
+      clock = k.clock ∙ sym (now_still line x s one world);
+      ways = ways;
+      fronts = fronts_are line (x ∷ s) one.valid z.trains ways after;
+      holds = λ t point. ap (λ (n : ℕ). hold_has line n (find_way t z.trains) point) k.id ∙ holds_are line (x ∷ s) one.valid z.trains ways after t point;
+      known = k.known ∙ sym (known_idle line x s one world);
+      distinct = k.distinct;
+      marks = λ t w found. let a = k.marks t w found in omega (arith, a);
+    }
+
 pub world_linked : (line : Line) (s : Story) (p : Plain) (x : Made) (ms : ℕ) (trains : List WorldTrain) (y : Effect) → IsLineOfOneZone line → Linked line s p → WorldMoves line s x ms trains
     → ((t : ℕ) → Sound line t s) → ((t : ℕ) → Sound line t (x ∷ s)) → y.issued ≡ x.issued → Linked line (x ∷ s) (world_next p (record { clock = ms; trains = trains }) y)
 world_linked line s p x ms trains y one k m sound after is =
-    let here : nat_eq x.actor 0 ≡ true = rw m.by_world refl in
-    let other = idle line x s one m.by_world in
-    let ways : (t : ℕ) → find_way t p.zone.trains ≡ zone_train line t (x ∷ s) = λ t. k.ways t ∙ sym (zone_idle line x s one m.by_world t (m.silent t) (sound t) (after t)) in
     record {
       time = m.time;
       trains = m.found;
       count = m.count;
-      zone = k.zone;
-      clock = k.clock ∙ sym (now_still line x s one m.by_world);
-      ways = ways;
-      fronts = fronts_are line (x ∷ s) one.valid p.zone.trains ways after;
-      holds = λ t point. ap (λ (z : ℕ). hold_has line z (find_way t p.zone.trains) point) k.zone ∙ holds_are line (x ∷ s) one.valid p.zone.trains ways after t point;
-      known = k.known ∙ sym (known_idle line x s one m.by_world);
-      distinct = k.distinct;
-      to_zone = ap (λ (xs : List Msg). xs ++ to_actor p.zone.id y.issued) k.to_zone
-          ∙ (ap (λ (n : ℕ). sent 0 (zone_id line) s ++ to_actor n y.issued) k.zone
-          ∙ (ap (λ (xs : List (ℕ × Msg)). sent 0 (zone_id line) s ++ to_actor (zone_id line) xs) is
-          ∙ sym (sent_by 0 (zone_id line) x s here)));
-      to_world = k.to_world ∙ sym (sent_else (zone_id line) 0 x s other);
+      zones = each_zone line (x ∷ s) p.zones one (zone_stays line s (p.zones (zone_id line)) x one (the_zone line s p one k) m.by_world m.silent m.heads sound after);
+      links = λ from to h. posted_sent 0 from to x s y p.links m.by_world is (k.links from to h);
       few = λ t. let a = k.few t in let b = last_quiet t x s (m.silent t) in omega (arith, a, b);
-      marks = λ t w found. let a = k.marks t w found in omega (arith, a);
       unasked = m.unasked;
       stays_off = m.stays_off;
       authorized = m.authorized;

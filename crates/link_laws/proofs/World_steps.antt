@@ -10,9 +10,9 @@ use Rattle.track_points.specs.declared.ids.TrainId.{TrainId}
 use Rattle.track_points.specs.Points.{Lengths, total}
 use Rattle.track_points.proofs.Some.{by_test}
 use Rattle.definitions.specs.declared.event.Event.TheVariants.{Enter, Step}
-use Rattle.definitions.specs.Track.{Line, seg_len, track_to}
+use Rattle.definitions.specs.Track.{Line, seg_len}
 use Rattle.definitions.specs.Story.{Entry as Made, Story}
-use Rattle.definitions.specs.World.{Facts, facts_or, facts_in, facts_of, is_declared, entry_in, first_entry, enters, entered, mm_of, moved, elapsed, head, long_of, HeldPath, Authority, entry_authority, last_number, limit_held, limit_place, held_end, clock, journey, taken_number}
+use Rattle.definitions.specs.World.{Facts, facts_or, facts_of, is_declared, first_entry, enters, entered, mm_of, elapsed, head, long_of, HeldPath, entry_authority, last_number, limit_held, limit_place, held_end, clock, journey}
 use Rattle.definitions.specs.World as ts
 use Rattle.definitions.specs.Premises.{ascending, may_move}
 use Rattle.definitions.specs.Steps.{Effect, nothing, entering, made}
@@ -24,17 +24,14 @@ use Rattle.plain_state.specs.World.{find_train, change_train, head_at_entry, kep
 use Rattle.plain_state.specs.Plain.{Plain, by_world as world_next}
 use Rattle.plain_state.specs.Relation.{kept_authority, head_of, world_of, world_train, Linked}
 use Rattle.motion_laws.proofs.Notions.{both, ever_now}
-use Rattle.motion_laws.proofs.Stays.{entered_stays, first_stays}
+use Rattle.motion_laws.proofs.Motion.{heads_rise}
 use Rattle.motion_laws.proofs.Issued.{AllIn}
 use Rattle.sound_laws.proofs.Sound.{Sound}
-use Rattle.way_laws.proofs.Lines.{portal_on_line}
-use Rattle.definitions.specs.Rules.{is_line}
-use Rattle.journey_laws.proofs.Journey.{journey_track}
-use Rattle.front_laws.proofs.Heads.{on_controls}
 use Rattle.link_laws.proofs.World_trains.{mapped, find_change, find_other, length_change}
 use Rattle.link_laws.proofs.Unissued.{NoAuth}
-use Rattle.link_laws.proofs.World_moves.{head_at, StillWorld, last_still, authority_still, facts_still, entry_still, world_same, undeclared_before, authority_stays, unasked_same, off_same, authorized_same, as_many, world_linked}
-use Rattle.link_laws.proofs.Limits.{head_found, head_moves, limit_same, head_at_length}
+use Rattle.link_laws.proofs.World_moves.{heads_still, StillWorld, last_still, authority_still, facts_still, entry_still, world_same, undeclared_before, authority_stays, unasked_same, off_same, authorized_same, as_many, world_linked}
+use Rattle.link_laws.proofs.Head_moved.{head_at}
+use Rattle.link_laws.proofs.Limits.{head_moves, limit_same, head_at_length, journey_entered}
 use Rattle.link_laws.proofs.World_linked.{clock_still}
 
 -- A train comes on.
@@ -77,34 +74,32 @@ module _ (line : Line) (t ms : ℕ) (u : TrainId) (a : Option ℕ) (s : Story) (
   unfolding head
   head_next = rw its refl
 
-  enter_now : (h : HeldPath) (f : Facts) → entry_authority t s ≡ Some h → facts_of t s ≡ Some f → is_line line ≡ true → Sound line t s
+  enter_now : (h : HeldPath) (f : Facts) → entry_authority t s ≡ Some h → facts_of t s ≡ Some f → entered t s ≡ false → Sound line t s
       → mapped come_on (world_train line t s) ≡ world_train line t (enter_entry ms u a ∷ s)
-  enter_now h f held fact valid sound =
+  enter_now h f held fact fresh sound =
       let e = sound.authorized.entry h held in
       let len = seg_len line in
       let long : long_of t s ≡ f.long = ap (λ (y : Option Facts). (facts_or y).long) fact in
       let room = e.first.room in
       let st = e.first.step in
-      let journey_next : journey line t (x ∷ s) ≡ track_to line (first_entry t s) f.long =
-      journey_track line t st valid (portal_on_line line st valid e.first.portal) (x ∷ s) (first_stays t x s st e.first.first) ∙ ap (λ (p : ℕ). track_to line (Some st) p) (head_next ∙ long)
-      ∙ ap (λ (y : Option DirSeg). track_to line y f.long) (sym e.first.first) in
-      let head_is : head_at line (first_entry t s) true f.long ≡ head_at_entry (first_entry t s) f.long =
-      ap (λ (y : Option DirSeg). head_at line y true f.long) e.first.first
-      ∙ (head_at_length line e.first.step f.long (omega (arith, long, room)) ∙ sym (ap (λ (y : Option DirSeg). head_at_entry y f.long) e.first.first)) in
-      let limit_is = kept_end len (track_to line (first_entry t s) f.long) h e.first.mark in
+      let head_is = head_next in
+      let journey_next : journey line t (x ∷ s) ≡ st ∷ [] = journey_entered line t x s st sound.motion e.first.first fresh (omega (arith, head_is, room)) in
+      let at_entry : head_at len (st ∷ []) f.long ≡ head_at_entry (first_entry t s) f.long =
+      head_at_length line st f.long (omega (arith, long, room)) ∙ sym (ap (λ (y : Option DirSeg). head_at_entry y f.long) e.first.first) in
+      let limit_is = kept_end len (st ∷ []) h e.first.mark in
       ap (λ (y : Option Facts). mapped come_on (world_of t y (first_entry t s) (kept_authority len (entry_authority t s)) (head_of line t s) (limit_place line t s - head t s) (last_number t s))) fact
       ∙ (ap (λ (y : Option HeldPath). mapped come_on (world_of t (Some f) (first_entry t s) (kept_authority len y) (head_of line t s) (limit_place line t s - head t s) (last_number t s))) held
-      ∙ (ap (λ (y : Option Head). world_of t (Some f) (first_entry t s) (kept_authority len (Some h)) y (kept_limit (kept_authority len (Some h)) - f.long) 1) (sym head_is)
-      ∙ (ap (λ (n : ℕ). world_of t (Some f) (first_entry t s) (kept_authority len (Some h)) (head_at line (first_entry t s) true f.long) (n - f.long) 1) limit_is
+      ∙ (ap (λ (y : Option Head). world_of t (Some f) (first_entry t s) (kept_authority len (Some h)) y (kept_limit (kept_authority len (Some h)) - f.long) 1) (sym at_entry)
+      ∙ (ap (λ (n : ℕ). world_of t (Some f) (first_entry t s) (kept_authority len (Some h)) (head_at len (st ∷ []) f.long) (n - f.long) 1) limit_is
       ∙ rw (facts_still t x s refl, entry_still t x s refl, authority_still t x s refl, on_next, journey_next, head_next ∙ long, limit_next, last_next, fact, held) refl)))
 
 some_value : {A : Type 0} (o : Option A) → is_some o ≡ true → (x : A) × (o ≡ Some x)
 some_value None h = absurd cc
 some_value (Some x) h = (x, refl)
 
-enter_found : (line : Line) (t ms : ℕ) (u : TrainId) (a : Option ℕ) (s : Story) (p : Plain) → is_line line ≡ true → is_declared u.0 s ≡ true → is_some (entry_authority u.0 s) ≡ true → Linked line s p → Sound line t s
+enter_found : (line : Line) (t ms : ℕ) (u : TrainId) (a : Option ℕ) (s : Story) (p : Plain) → is_declared u.0 s ≡ true → is_some (entry_authority u.0 s) ≡ true → entered u.0 s ≡ false → Linked line s p → Sound line t s
     → find_train t (change_train u.0 come_on p.world.trains) ≡ world_train line t (enter_entry ms u a ∷ s)
-enter_found line t ms u a s p valid declared some k sound =
+enter_found line t ms u a s p declared some fresh k sound =
     let x = enter_entry ms u a in
     by_test (nat_eq u.0 t)
     (λ its.
@@ -114,20 +109,21 @@ enter_found line t ms u a s p valid declared some k sound =
     ap (λ (n : ℕ). find_train t (change_train n come_on p.world.trains)) same
     ∙ (find_change t come_on p.world.trains (λ y. refl)
     ∙ (ap (λ (y : Option WorldTrain). mapped come_on y) (k.trains t)
-    ∙ enter_now line t ms u a s its h.0 f.0 h.1 f.1 valid sound)))
+    ∙ enter_now line t ms u a s its h.0 f.0 h.1 f.1 (subst (λ (n : ℕ). entered n s ≡ false) same fresh) sound)))
     (λ other. find_other t u.0 come_on p.world.trains (λ y. refl) other
     ∙ (k.trains t ∙ sym (world_same line t x s (record { facts = refl; entry = refl; off = other; still = refl; taken = refl }))))
 
-pub enter_linked : (line : Line) (ms : ℕ) (u : TrainId) (a : Option ℕ) (s : Story) (p : Plain) (y : Effect) → IsLineOfOneZone line → is_declared u.0 s ≡ true → is_some (entry_authority u.0 s) ≡ true → Linked line s p → ((t : ℕ) → Sound line t s)
+pub enter_linked : (line : Line) (ms : ℕ) (u : TrainId) (a : Option ℕ) (s : Story) (p : Plain) (y : Effect) → IsLineOfOneZone line → is_declared u.0 s ≡ true → is_some (entry_authority u.0 s) ≡ true → entered u.0 s ≡ false → Linked line s p → ((t : ℕ) → Sound line t s)
     → ((t : ℕ) → Sound line t (enter_entry ms u a ∷ s)) → y.issued ≡ (entering ms u a).issued
     → Linked line (enter_entry ms u a ∷ s) (world_next p (record { clock = p.world.clock; trains = change_train u.0 come_on p.world.trains }) y)
-enter_linked line ms u a s p y one declared some k sound after is =
+enter_linked line ms u a s p y one declared some fresh k sound after is =
     let x = enter_entry ms u a in
     world_linked line s p x p.world.clock (change_train u.0 come_on p.world.trains) y one k (record {
       by_world = refl;
       time = k.time ∙ clock_still x s refl;
-      found = λ t. enter_found line t ms u a s p one.valid declared some k (sound t);
+      found = λ t. enter_found line t ms u a s p declared some fresh k (sound t);
       silent = λ t. enter_silent t ms u a;
+      heads = λ t. heads_rise t x s (sound t).motion (λ its. subst (λ (n : ℕ). entered n s ≡ false) (eqb-true u.0 t its) fresh);
       count = length_change u.0 come_on p.world.trains ∙ (k.count ∙ sym (as_many x s refl));
       unasked = λ t. unasked_same t x s refl (k.unasked t);
       stays_off = λ t d. by_test (nat_eq u.0 t)
@@ -151,6 +147,7 @@ still_linked line s p x y one world time still many silent k sound after is =
       time = k.time ∙ clock_still x s time;
       found = λ t. k.trains t ∙ sym (world_same line t x s (still t));
       silent = silent;
+      heads = λ t. heads_still t x s (still t).off (still t).still;
       count = k.count ∙ sym (as_many x s many);
       unasked = λ t. unasked_same t x s (still t).entry (k.unasked t);
       stays_off = λ t. off_same t x s (still t).off (k.stays_off t);
@@ -225,23 +222,19 @@ head_stepped : (t ms : ℕ) (moves : ArrayVec (TrainId × ℕ)) (s : Story) → 
 unfolding head
 head_stepped t ms moves s = refl
 
-step_moved : (line : Line) (t ms : ℕ) (moves : ArrayVec (TrainId × ℕ)) (s : Story) → IsLineOfOneZone line → entered t s ≡ true → head t s + mm_of t moves.items ≤ limit_place line t s → Sound line t s → Sound line t (step_entry ms moves ∷ s)
+step_moved : (line : Line) (t ms : ℕ) (moves : ArrayVec (TrainId × ℕ)) (s : Story) → IsLineOfOneZone line → entered t s ≡ true → Sound line t s → Sound line t (step_entry ms moves ∷ s)
     → mapped (moved_train line (mm_of t moves.items)) (world_train line t s) ≡ world_train line t (step_entry ms moves ∷ s)
 unfolding AllIn
-step_moved line t ms moves s one on ahead sound after =
+step_moved line t ms moves s one on sound after =
     let x = step_entry ms moves in
     let len = seg_len line in
     let mm = mm_of t moves.items in
-    let c = on_controls line t s sound on in
-    let on2 = entered_stays t x s on in
     let last = last_still t x s refl refl in
     let first = entry_still t x s refl in
     let auth = authority_still t x s refl in
     let head_now = head_stepped t ms moves s in
-    let limit = limit_same line t x s tt sound after on on2 first last in
-    let moved_head_ : head_of line t (x ∷ s) ≡ moved_on line mm (head_of line t s) =
-    head_found line t (x ∷ s) one.valid after on2 ∙ ap (λ (f : Option DirSeg). head_at line f true (head t (x ∷ s))) first ∙ ap (λ (p : ℕ). head_at line (first_entry t s) true p) head_now
-    ∙ head_moves line t s one.valid sound c mm on ahead ∙ ap (λ (h : Option Head). moved_on line mm h) (sym (head_found line t s one.valid sound on)) in
+    let limit = limit_same line t x s sound after on (omega (arith, head_now)) last in
+    let moved_head_ : head_of line t (x ∷ s) ≡ moved_on line mm (head_of line t s) = head_moves line t x s one.valid sound after on refl in
     let room : limit_place line t s - head t s - mm ≡ limit_place line t (x ∷ s) - head t (x ∷ s) = omega (arith, limit, head_now) in
     mapped_moved line t mm (facts_of t s) (first_entry t s) (kept_authority len (entry_authority t s)) (head_of line t s) (limit_place line t s - head t s) (last_number t s)
     ∙ (ap (λ (h : Option Head). world_of t (facts_of t s) (first_entry t s) (kept_authority len (entry_authority t s)) h (limit_place line t s - head t s - mm) (last_number t s)) (sym moved_head_)
@@ -259,7 +252,7 @@ step_found line t ms moves s p one order may k sound after =
     ∙ by_test (moves_it t moves.items)
     (λ y.
     let a = moving_ahead line t s moves.items may y in
-    rw y (ap (λ (z : Option WorldTrain). mapped (moved_train line (mm_of t moves.items)) z) (k.trains t) ∙ step_moved line t ms moves s one a.0 a.1 sound after))
+    rw y (ap (λ (z : Option WorldTrain). mapped (moved_train line (mm_of t moves.items)) z) (k.trains t) ∙ step_moved line t ms moves s one a.0 sound after))
     (λ n. rw n (k.trains t ∙ sym (world_same line t x s (record { facts = refl; entry = refl; off = refl; still = still_mm t moves.items n; taken = refl }))))
 
 clock_stepped : (ms : ℕ) (moves : ArrayVec (TrainId × ℕ)) (s : Story) → clock (step_entry ms moves ∷ s) ≡ clock s + ms
@@ -276,6 +269,7 @@ step_linked line ms moves s p one order may k sound after =
       time = ap (λ (n : ℕ). n + ms) k.time ∙ sym (clock_stepped ms moves s);
       found = λ t. step_found line t ms moves s p one order may k (sound t) (after t);
       silent = λ t. tt;
+      heads = λ t. let h = head_stepped t ms moves s in omega (arith, h);
       count = length_moved line moves.items p.world.trains ∙ (k.count ∙ sym (as_many x s refl));
       unasked = λ t. unasked_same t x s refl (k.unasked t);
       stays_off = λ t. off_same t x s refl (k.stays_off t);

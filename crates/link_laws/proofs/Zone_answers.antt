@@ -22,18 +22,19 @@ use Rattle.plain_state.specs.ZoneTrain.{ZoneTrain}
 use Rattle.plain_state.specs.Zone.{find_way, change_way, way_found, last_found, full, answer, again_found, zone_answer, grown_train}
 use Rattle.plain_state.specs.Plain.{Plain, zone_id}
 use Rattle.plain_state.specs.Relation.{zone_train_of, zone_train, Linked}
+use Rattle.motion_laws.proofs.Controls.{controls_same}
 use Rattle.sound_laws.proofs.Sound.{Sound}
 use Rattle.front_laws.proofs.Front_numbers.{grown_to}
-use Rattle.authority_laws.proofs.Unshrunk.{counted_answered}
-use Rattle.authority_laws.proofs.Most_of.{last_quiet}
+use Rattle.front_laws.proofs.Unshrunk.{counted_answered}
+use Rattle.authority_laws.proofs.Last_issued.{last_quiet}
 use Rattle.link_laws.proofs.World_trains.{mapped}
 use Rattle.link_laws.proofs.Zone_trains.{way_change, way_other, ids_change, distinct_change}
 use Rattle.link_laws.proofs.Zone_values.{Grown, way_now, last_now, known_now, full_now, holder_now, reach_now}
 use Rattle.link_laws.proofs.Values.{way_is_known}
 use Rattle.link_laws.proofs.Kept_train.{kept_train}
-use Rattle.link_laws.proofs.Unissued.{NoAuth, end_same, controls_same}
-use Rattle.link_laws.proofs.Zone_idle.{no_train, first_same}
-use Rattle.link_laws.proofs.Zone_moves.{zone_made, ZoneMoves}
+use Rattle.link_laws.proofs.Unissued.{NoAuth, end_same}
+use Rattle.link_laws.proofs.Zone_idle.{no_train}
+use Rattle.link_laws.proofs.Zone_moves.{zone_made, zone_heads, ZoneMoves}
 use Rattle.link_laws.proofs.Zone_behind.{grown_is, controlled_still, behind_unused, zone_silent}
 use Rattle.link_laws.proofs.Quiet_linked.{silent_stays, stay_moves}
 use Rattle.link_laws.proofs.Report_linked.{report_answer}
@@ -43,7 +44,7 @@ time_by line u s clock None = refl
 time_by line u s clock (Some w) = refl
 
 pub answer_now : (line : Line) (z number : ℕ) (s : Story) → IsLineOfOneZone line → suc z ≡ zone_id line → ((t : ℕ) → Sound line t s) → (m : Msg) (ways : List ZoneTrain) → Grown line s (now_with (zone_id line) s m) ways
-    → zone_takes line (zone_id line) s m ≡ zone_answer line (zone_id line) (now_with (zone_id line) s m) ways m
+    → zone_takes line (zone_id line) 0 s m ≡ zone_answer line (zone_id line) (now_with (zone_id line) s m) ways m
 answer_now line z number s one zone sound (msg.EntryAsk u time long error speed equipped step) ways g =
     let m = msg.EntryAsk u time long error speed equipped step in
     let n = now_with (zone_id line) s m in
@@ -62,7 +63,7 @@ answer_now line z number s one zone sound (msg.Report u time mark offset integri
 answer_now line z number s one zone sound (msg.Time time u) ways g =
     let n = now_with (zone_id line) s (msg.Time time u) in
     let z0 = zone_id line in
-    ap (λ (b : Bool). zone_time b (counted line u.0 s) (last_issued u.0 s) u (way line z0 u.0 s)) (sym (way_is_known line u.0 s one.valid (sound u.0)))
+    ap (λ (b : Bool). zone_time b (counted line u.0 s) (last_issued u.0 s) u (way line z0 u.0 s)) (sym (way_is_known line z0 u.0 s))
     ∙ (time_by line u s n (way line z0 u.0 s) ∙ ap (λ (x : Option ZoneTrain). again_found u x) (sym (g.found u.0)))
 answer_now line z number s one zone sound (msg.Answer u time n taken) ways g = refl
 answer_now line z number s one zone sound (msg.Auth u n mark path) ways g = refl
@@ -89,7 +90,7 @@ module _ (line : Line) (z number : ℕ) (u : TrainId) (time n : ℕ) (taken : Bo
       let hi = grown_to line t s m ((sound t).fronts c).hi in
       let its : nat_eq u.0 u.0 ≡ true = grind (arith, nat_tests) in
       let c2 = controlled_still line z number m e s one zone t (sound t) (after t) c (none t) in
-      let end = end_same line t x s (silent t) (sound t) (after t) c c2 (first_same line t x s (sound t) c) in
+      let end = end_same line t x s (silent t) (sound t) (after t) c c2 (zone_heads t z number m e s) in
       let g : grants_entry x.actor t x ≡ false = ap (λ (y : ℕ). grants_entry y t x) zone ∙ none t in
       let counts = counted_answered line t x s (sound t).authorized.unshrunk 0 u time n taken refl its g (ap (λ (y : ℕ). controls y t s) zone ∙ c) in
       ap (λ (y : Option ZoneTrain). mapped (answer (seg_len line) n taken) y) (grown_is line m s t one (sound t) c)
@@ -97,12 +98,12 @@ module _ (line : Line) (z number : ℕ) (u : TrainId) (time n : ℕ) (taken : Bo
       ∙ (ap (λ (q : ℕ). Some (kept_train len t f (longest_route line t s) lo hi (longest_end line t s) (now_with (zone_id line) s m) (report_time line (zone_id line) t s) q (counted line t (x ∷ s)))) (last_quiet t x s (silent t))
       ∙ ap (λ (q : ℕ). Some (kept_train len t f (longest_route line t s) lo hi (longest_end line t s) (now_with (zone_id line) s m) (report_time line (zone_id line) t s) (last_issued t s) q)) counts)))
       (λ o.
-      ap (λ (y : Option ZoneTrain). mapped (answer (seg_len line) n taken) (mapped (grown_train (now_with (zone_id line) s m)) y)) (no_train line u.0 s (sound u.0) o)
-      ∙ sym (no_train line u.0 (x ∷ s) (after u.0) (controls_same (zone_id line) u.0 x s (none u.0) ∙ o)))
+      ap (λ (y : Option ZoneTrain). mapped (answer (seg_len line) n taken) (mapped (grown_train (now_with (zone_id line) s m)) y)) (no_train line u.0 s o)
+      ∙ sym (no_train line u.0 (x ∷ s) (controls_same (zone_id line) u.0 x s (none u.0) ∙ o)))
 
   pub answered_moves : (p : Plain) (ways : List ZoneTrain) → Linked line s p → Grown line s (now_with (zone_id line) s m) ways → ZoneMoves line s (zone_made z number m e) (change_way u.0 (answer (seg_len line) n taken) ways)
   answered_moves p ways k g =
-      stay_moves line x s p (change_way u.0 (answer (seg_len line) n taken) ways) one k sound after (silent_stays line x s sound after none silent)
+      stay_moves line x s p (change_way u.0 (answer (seg_len line) n taken) ways) one k sound after (silent_stays line x s sound after none (λ v. zone_heads v z number m e s) silent)
       (λ v. by_test (nat_eq u.0 v)
       (λ its. subst (λ (i : ℕ). find_way i (change_way u.0 (answer (seg_len line) n taken) ways) ≡ zone_train line i (x ∷ s)) (eqb-true u.0 v its)
       (way_change u.0 (answer (seg_len line) n taken) ways (λ w. refl) ∙ (ap (λ (y : Option ZoneTrain). mapped (answer (seg_len line) n taken) y) (g.found u.0) ∙ answered_own)))

@@ -1,5 +1,5 @@
 -- A train of the zone behind a message that the zone takes: its fronts grow, and a used report narrows them.
-use Rattle.std.proofs.Common.{◌≡◌, ℕ, suc, ◌-◌, max, List, ◌∷◌, length, Option, Some, Bool, true, false, refl, sym, ◌∙◌, ap, subst, arith}
+use Rattle.std.proofs.Common.{◌≡◌, ℕ, suc, ◌≤◌, max, List, ◌∷◌, length, Option, Some, Bool, true, false, refl, sym, ◌∙◌, ap, arith}
 use Rattle.std.proofs.lemmas.Bool.Decides.{nat_tests}
 use Rattle.std.specs.Prelude.{ℤ, nat_eq}
 use Rattle.track_points.specs.declared.ids.DirSeg.{DirSeg}
@@ -10,7 +10,7 @@ use Rattle.definitions.specs.declared.message.Msg.{Msg}
 use Rattle.definitions.specs.declared.message.Msg.TheVariants as msg
 use Rattle.definitions.specs.Track.{Line, seg_len}
 use Rattle.definitions.specs.Story.{Entry as Made, Story}
-use Rattle.definitions.specs.World.{first_entry}
+use Rattle.definitions.specs.World.{head}
 use Rattle.definitions.specs.Control.{grants_entry, controls, known_facts, now_of, now_with, took_time, last_issued}
 use Rattle.definitions.specs.Fold.{account}
 use Rattle.definitions.specs.Longest.{counted, longest_end, longest_route}
@@ -21,21 +21,20 @@ use Rattle.plain_state.specs.ZoneTrain.{ZoneTrain}
 use Rattle.plain_state.specs.Zone.{grown_train}
 use Rattle.plain_state.specs.Plain.{zone_id}
 use Rattle.plain_state.specs.Relation.{zone_train}
-use Rattle.way_laws.proofs.Route.{fronts_cut}
-use Rattle.way_laws.proofs.Track.{TrackFront}
-use Rattle.way_laws.proofs.Between_places.{between_mark}
+use Rattle.motion_laws.proofs.Controls.{controls_same}
 use Rattle.sound_laws.proofs.Sound.{Sound}
 use Rattle.front_laws.proofs.Front_moves.{known_same, now_acted}
 use Rattle.front_laws.proofs.Front_numbers.{grown_to, fronts_left}
 use Rattle.front_laws.proofs.Front_ends.{ends_grown, ends_narrowed}
-use Rattle.authority_laws.proofs.Unshrunk.{none_takes, answers, counted_unanswered}
-use Rattle.authority_laws.proofs.Most_of.{last_quiet}
+use Rattle.front_laws.proofs.Route_goes_on.{route_stays}
+use Rattle.front_laws.proofs.Unshrunk.{none_takes, answers, counted_unanswered}
+use Rattle.authority_laws.proofs.Last_issued.{last_quiet}
 use Rattle.link_laws.proofs.World_trains.{mapped}
 use Rattle.link_laws.proofs.Way_of.{way_of}
 use Rattle.link_laws.proofs.Kept_train.{kept_train, zone_kept, kept_grown, zone_behind}
-use Rattle.link_laws.proofs.Unissued.{NoAuth, end_same, controls_same}
-use Rattle.link_laws.proofs.Zone_idle.{no_train, first_same}
-use Rattle.link_laws.proofs.Zone_moves.{zone_made}
+use Rattle.link_laws.proofs.Unissued.{NoAuth, end_same}
+use Rattle.link_laws.proofs.Zone_idle.{no_train}
+use Rattle.link_laws.proofs.Zone_moves.{zone_made, zone_heads}
 
 pub report_unused : (line : Line) (z t : ℕ) (x : Made) (s : Story) → grants_entry z t x ≡ false → uses_report line z t s x.took ≡ false → report_time line z t (x ∷ s) ≡ report_time line z t s
 unfolding report_time
@@ -46,25 +45,13 @@ unfolding report_time
 report_used line z t x s h a u = rw (h, a, u) refl
 
 -- as many steps up to the end as before, where that is the same
-pub steps_same : (line : Line) (t : ℕ) (x : Made) (s : Story) → IsLineOfOneZone line → Sound line t s → Sound line t (x ∷ s) → controls (zone_id line) t s ≡ true → controls (zone_id line) t (x ∷ s) ≡ true
+pub steps_same : (line : Line) (t : ℕ) (x : Made) (s : Story) → (sound : Sound line t s) → (after : Sound line t (x ∷ s)) → controls (zone_id line) t s ≡ true → controls (zone_id line) t (x ∷ s) ≡ true → head t s ≤ head t (x ∷ s)
     → longest_end line t (x ∷ s) ≡ longest_end line t s
     → length (steps_to (seg_len line) (longest_route line t (x ∷ s)) (longest_end line t (x ∷ s))) ≡ length (steps_to (seg_len line) (longest_route line t s) (longest_end line t s))
-steps_same line t x s one sound after c d end =
+steps_same line t x s sound after c d heads end =
     let len = seg_len line in
-    let a = way_of line t s one.valid sound c in
-    let b = way_of line t (x ∷ s) one.valid after d in
-    let front = subst (λ (f : Option DirSeg). TrackFront line f (longest_route line t (x ∷ s))) (first_same line t x s sound c) b.front in
-    let ao = a.order in
-    let ai = a.ordered in
-    let aw = a.within in
-    let bo = b.order in
-    let bi = b.ordered in
-    let bw = b.within in
-    let am = between_mark len (longest_route line t s) ((sound.fronts c).lo - (known_facts (zone_id line) t s).long) (longest_end line t s) (omega (arith, ao, ai, aw)) a.room in
-    let bm = between_mark len (longest_route line t (x ∷ s)) ((after.fronts d).lo - (known_facts (zone_id line) t (x ∷ s)).long) (longest_end line t (x ∷ s)) (omega (arith, bo, bi, bw)) b.room in
-    let br = b.room in
-    ap (λ (p : ℕ). length (steps_to len (longest_route line t (x ∷ s)) p)) end
-    ∙ ap (λ (xs : List DirSeg). length xs) (fronts_cut line (first_entry t s) len (longest_route line t (x ∷ s)) (longest_route line t s) front a.front (longest_end line t s) (omega (arith, bm)) (omega (arith, am)) (omega (arith, br, end)) a.room)
+    ap (λ (xs : List DirSeg). length (steps_to len xs (longest_end line t (x ∷ s)))) (route_stays line t s x sound.motion sound.authorized after.authorized c d heads end)
+    ∙ ap (λ (p : ℕ). length (steps_to len (longest_route line t s) p)) end
 
 -- the plain growth of its fronts
 pub grown_is : (line : Line) (m : Msg) (s : Story) (t : ℕ) → IsLineOfOneZone line → (sound : Sound line t s) → (c : controls (zone_id line) t s ≡ true) → mapped (grown_train (now_with (zone_id line) s m)) (zone_train line t s)
@@ -105,7 +92,7 @@ module _ (line : Line) (z number : ℕ) (m : Msg) (e : Effect) (s : Story) (one 
           let d = controlled_still in
           let l = last_issued t (x ∷ s) in
           let n = counted line t (x ∷ s) in
-          zone_behind line t s (x ∷ s) one.valid sound after c d (first_same line t x s sound c) (known_same (zone_id line) t x s none) end
+          zone_behind line t s (x ∷ s) one.valid after d (known_same (zone_id line) t x s none) end (route_stays line t s x sound.motion sound.authorized after.authorized c d (zone_heads t z number m e s) end)
           ∙ (ap (λ (q : ℕ). Some (kept_train len t k (longest_route line t s) q (after.fronts d).hi (longest_end line t s) (now_of (zone_id line) (x ∷ s)) (report_time line (zone_id line) t (x ∷ s)) l n)) a
           ∙ (ap (λ (q : ℕ). Some (kept_train len t k (longest_route line t s) lo q (longest_end line t s) (now_of (zone_id line) (x ∷ s)) (report_time line (zone_id line) t (x ∷ s)) l n)) b
           ∙ (ap (λ (q : ℕ). Some (kept_train len t k (longest_route line t s) lo hi (longest_end line t s) q (report_time line (zone_id line) t (x ∷ s)) l n)) now_is
@@ -132,13 +119,13 @@ module _ (line : Line) (z number : ℕ) (m : Msg) (e : Effect) (s : Story) (one 
       ∙ (ap (λ (q : ℕ). Some (kept_train len t k (longest_route line t s) (sound.fronts c).lo hi (longest_end line t s) (now_with (zone_id line) s m) (report_time line (zone_id line) t s) q (counted line t (x ∷ s)))) last
       ∙ (ap (λ (q : ℕ). Some (kept_train len t k (longest_route line t s) (sound.fronts c).lo hi (longest_end line t s) (now_with (zone_id line) s m) (report_time line (zone_id line) t s) (last_issued t s) q)) counts
       ∙ sym (grown_is line m s t one sound c))))
-      (λ n. no_train line t (x ∷ s) after (controls_same (zone_id line) t x s none ∙ n) ∙ sym (ap (λ (y : Option ZoneTrain). mapped (grown_train (now_with (zone_id line) s m)) y) (no_train line t s sound n)))
+      (λ n. no_train line t (x ∷ s) (controls_same (zone_id line) t x s none ∙ n) ∙ sym (ap (λ (y : Option ZoneTrain). mapped (grown_train (now_with (zone_id line) s m)) y) (no_train line t s n)))
 
   -- and of the train nothing is issued
   pub zone_silent : NoAuth t e.issued → grants_entry (zone_id line) t (zone_made z number m e) ≡ false → is_used line (zone_id line) t s (possible_front line (zone_id line) t s) m ≡ false → answers t (Some (0, m)) ≡ false
       → zone_train line t (zone_made z number m e ∷ s) ≡ mapped (grown_train (now_with (zone_id line) s m)) (zone_train line t s)
   zone_silent a none unused uncounted =
-      zone_still (λ c. end_same line t x s a sound after c (controlled_still c none) (first_same line t x s sound c)) (last_quiet t x s a) none unused (counted_unanswered line t x s sound.authorized.unshrunk uncounted)
+      zone_still (λ c. end_same line t x s a sound after c (controlled_still c none) (zone_heads t z number m e s)) (last_quiet t x s a) none unused (counted_unanswered line t x s sound.authorized.unshrunk uncounted)
 
 -- a used report
 module _ (line : Line) (z number : ℕ) (u : TrainId) (time mark : ℕ) (offset : ℤ) (integrity : Bool) (e : Effect) (s : Story) (one : IsLineOfOneZone line) (zone : suc z ≡ zone_id line) (t : ℕ) (sound : Sound line t s)
@@ -161,7 +148,7 @@ module _ (line : Line) (z number : ℕ) (u : TrainId) (time mark : ℕ) (offset 
       let here = acts line z number r e s one zone t sound after in
       let d = controlled_still line z number r e s one zone t sound after c none in
       let ends = ends_narrowed line t y s (sound.fronts c) (after.fronts d) none 0 u time mark offset integrity c here refl used in
-      numbers_are line z number r e s one zone t sound after c none (end_same line t y s a sound after c d (first_same line t y s sound c)) left.lo left.hi (max (report_time line (zone_id line) t s) time) ends.0 ends.1
+      numbers_are line z number r e s one zone t sound after c none (end_same line t y s a sound after c d (zone_heads t z number r e s)) left.lo left.hi (max (report_time line (zone_id line) t s) time) ends.0 ends.1
       (report_used line (zone_id line) t y s none here used)
       ∙ (ap (λ (q : ℕ). Some (kept_train len t k (longest_route line t s) left.lo left.hi (longest_end line t s) (now_with (zone_id line) s r) (max (report_time line (zone_id line) t s) time) q (counted line t (y ∷ s)))) (last_quiet t y s a)
       ∙ ap (λ (q : ℕ). Some (kept_train len t k (longest_route line t s) left.lo left.hi (longest_end line t s) (now_with (zone_id line) s r) (max (report_time line (zone_id line) t s) time) (last_issued t s) q)) (counted_unanswered line t y s sound.authorized.unshrunk refl))

@@ -1,37 +1,33 @@
 -- An event of the world leaves the zone's trains as they are.
-use Rattle.std.proofs.Common.{◌≡◌, ℕ, ◌∷◌, Option, Some, None, true, false, refl, sym, ◌∙◌, ap, arith}
+use Rattle.std.proofs.Common.{◌≡◌, ℕ, ◌≤◌, ◌∷◌, Option, Some, None, false, refl, sym, ◌∙◌, ap, arith}
 use Rattle.std.proofs.lemmas.Bool.Decides.{nat_tests}
 use Rattle.std.specs.Prelude.{nat_eq}
 use Rattle.track_points.proofs.Some.{by_test}
 use Rattle.definitions.specs.Track.{Line, seg_len}
 use Rattle.definitions.specs.Ways.{PlainWay}
 use Rattle.definitions.specs.Story.{Entry as Made, Story}
-use Rattle.definitions.specs.World.{first_entry}
+use Rattle.definitions.specs.World.{head}
 use Rattle.definitions.specs.Control.{grants_entry, asker, controls, known_facts, known_trains, now_of, last_issued}
 use Rattle.definitions.specs.Longest.{counted, longest_end, longest_route}
 use Rattle.definitions.specs.Fronts.{report_time}
 use Rattle.definitions.specs.Safe.{IsLineOfOneZone}
 use Rattle.plain_state.specs.Plain.{zone_id}
 use Rattle.plain_state.specs.Relation.{zone_train_of, zone_train}
-use Rattle.motion_laws.proofs.Stays.{first_stays}
+use Rattle.motion_laws.proofs.Controls.{controls_same}
+use Rattle.motion_laws.proofs.Known_trains.{known_still}
 use Rattle.sound_laws.proofs.Sound.{Sound}
 use Rattle.front_laws.proofs.Entries.{counted_else}
 use Rattle.front_laws.proofs.Front_moves.{known_same, now_idle}
 use Rattle.front_laws.proofs.Front_ends.{ends_idle}
-use Rattle.authority_laws.proofs.Most_of.{last_quiet}
+use Rattle.front_laws.proofs.Route_goes_on.{route_stays}
+use Rattle.authority_laws.proofs.Last_issued.{last_quiet}
 use Rattle.link_laws.proofs.One_zone.{zone_positive}
 use Rattle.link_laws.proofs.Values.{no_way}
 use Rattle.link_laws.proofs.Kept_train.{kept_train, zone_kept, zone_behind}
-use Rattle.link_laws.proofs.Unissued.{NoAuth, end_same, controls_same, world_controls, report_idle}
+use Rattle.link_laws.proofs.Unissued.{NoAuth, end_same, world_controls, report_idle}
 
-pub no_train : (line : Line) (t : ℕ) (s : Story) → Sound line t s → controls (zone_id line) t s ≡ false → zone_train line t s ≡ None
-no_train line t s sound n = ap (λ (w : Option PlainWay). zone_train_of line (zone_id line) t s w) (no_way line t s sound n)
-
--- what is of a controlled train's first request stays
-pub first_same : (line : Line) (t : ℕ) (x : Made) (s : Story) → Sound line t s → controls (zone_id line) t s ≡ true → first_entry t (x ∷ s) ≡ first_entry t s
-first_same line t x s sound c =
-    let k = sound.authorized.controlled c in
-    first_stays t x s k.step k.first ∙ sym k.first
+pub no_train : (line : Line) (t : ℕ) (s : Story) → controls (zone_id line) t s ≡ false → zone_train line t s ≡ None
+no_train line t s n = ap (λ (w : Option PlainWay). zone_train_of line (zone_id line) t s w) (no_way line (zone_id line) t s n)
 
 pub idle_actor : (line : Line) → IsLineOfOneZone line → nat_eq 0 (zone_id line) ≡ false
 idle_actor line l = let p = zone_positive line l in grind (arith, nat_tests)
@@ -44,28 +40,27 @@ module _ (line : Line) (x : Made) (s : Story) (one : IsLineOfOneZone line) (worl
   no_grant t = rw idle refl
 
   pub known_idle : known_trains (zone_id line) (x ∷ s) ≡ known_trains (zone_id line) s
-  unfolding known_trains
-  known_idle = rw (no_grant (asker x.took)) refl
+  known_idle = known_still (zone_id line) x s (no_grant (asker x.took))
 
   pub now_still : now_of (zone_id line) (x ∷ s) ≡ now_of (zone_id line) s
   now_still = now_idle (zone_id line) x s idle
 
-  pub zone_idle : (t : ℕ) → NoAuth t x.issued → Sound line t s → Sound line t (x ∷ s) → zone_train line t (x ∷ s) ≡ zone_train line t s
-  zone_idle t a sound after =
+  pub zone_idle : (t : ℕ) → NoAuth t x.issued → Sound line t s → Sound line t (x ∷ s) → head t s ≤ head t (x ∷ s) → zone_train line t (x ∷ s) ≡ zone_train line t s
+  zone_idle t a sound after heads =
       let z = zone_id line in
       let none = no_grant t in
       let same = controls_same z t x s none in
       by_test (controls z t s)
       (λ c.
       let d = same ∙ c in
-      let first = first_same line t x s sound c in
+      let same_end = end_same line t x s a sound after c d heads in
       let ends = ends_idle line t x s (sound.fronts c) (after.fronts d) none idle in
       let counts = counted_else line t x s (ap (λ (n : ℕ). controls n t s) world ∙ world_controls line t s one sound) in
       let len = seg_len line in
       let f = known_facts z t s in
       let steps = longest_route line t s in
       let end = longest_end line t s in
-      zone_behind line t s (x ∷ s) one.valid sound after c d first (known_same z t x s none) (end_same line t x s a sound after c d first)
+      zone_behind line t s (x ∷ s) one.valid after d (known_same z t x s none) same_end (route_stays line t s x sound.motion sound.authorized after.authorized c d heads same_end)
       ∙ (ap (λ (n : ℕ). Some (kept_train len t f steps n (after.fronts d).hi end (now_of z (x ∷ s)) (report_time line z t (x ∷ s)) (last_issued t (x ∷ s)) (counted line t (x ∷ s)))) ends.0
       ∙ (ap (λ (n : ℕ). Some (kept_train len t f steps (sound.fronts c).lo n end (now_of z (x ∷ s)) (report_time line z t (x ∷ s)) (last_issued t (x ∷ s)) (counted line t (x ∷ s)))) ends.1
       ∙ (ap (λ (n : ℕ). Some (kept_train len t f steps (sound.fronts c).lo (sound.fronts c).hi end n (report_time line z t (x ∷ s)) (last_issued t (x ∷ s)) (counted line t (x ∷ s)))) now_still
@@ -73,4 +68,4 @@ module _ (line : Line) (x : Made) (s : Story) (one : IsLineOfOneZone line) (worl
       ∙ (ap (λ (n : ℕ). Some (kept_train len t f steps (sound.fronts c).lo (sound.fronts c).hi end (now_of z s) (report_time line z t s) n (counted line t (x ∷ s)))) (last_quiet t x s a)
       ∙ (ap (λ (n : ℕ). Some (kept_train len t f steps (sound.fronts c).lo (sound.fronts c).hi end (now_of z s) (report_time line z t s) (last_issued t s) n)) counts
       ∙ sym (zone_kept line t s one.valid sound c))))))))
-      (λ n. no_train line t (x ∷ s) after (same ∙ n) ∙ sym (no_train line t s sound n))
+      (λ n. no_train line t (x ∷ s) (same ∙ n) ∙ sym (no_train line t s n))

@@ -14,14 +14,15 @@ use Rattle.definitions.specs.Authority.{way}
 use Rattle.definitions.specs.Steps.{Effect, nothing, zone_takes, falls_silent, alarm, alarms, zone_step}
 use Rattle.definitions.specs.Safe.{IsLineOfOneZone}
 use Rattle.plain_state.specs.ZoneTrain.{ZoneTrain}
-use Rattle.plain_state.specs.Zone.{find_way, report_or, report_of, is_alarmed, alarm_of, plain_alarms, ways_after, zone_answer, zone_heeds, clock_after, trains_grown, trains_stepped, zone_gives, zone_take_effect, zone_take_next, grown_train}
+use Rattle.plain_state.specs.Zone.{PlainZone, find_way, report_or, report_of, is_alarmed, alarm_of, plain_alarms, ways_after, zone_answer, zone_heeds, clock_after, trains_grown, trains_stepped, zone_gives, zone_take_effect, zone_take_next, grown_train}
 use Rattle.plain_state.specs.Plain.{Plain, zone_id, by_zone as zone_next}
-use Rattle.plain_state.specs.Relation.{zone_train_of, Linked}
+use Rattle.plain_state.specs.Relation.{zone_train_of, ZoneLinked, Linked}
+use Rattle.motion_laws.proofs.Controls.{controls_same}
 use Rattle.sound_laws.proofs.Sound.{Sound}
+use Rattle.link_laws.proofs.One_zone.{the_zone}
 use Rattle.link_laws.proofs.Zone_trains.{filtered_is}
 use Rattle.link_laws.proofs.Zone_values.{grown_of}
 use Rattle.link_laws.proofs.Values.{way_is_known}
-use Rattle.link_laws.proofs.Unissued.{controls_same}
 use Rattle.link_laws.proofs.Shown.{found_controls}
 use Rattle.link_laws.proofs.Zone_moves.{zone_made, ZoneMoves, zone_linked}
 use Rattle.link_laws.proofs.Zone_behind.{report_unused, report_used}
@@ -41,17 +42,23 @@ report_some line t s None h = absurd cc
 report_some line t s (Some w) h = refl
 
 module _ (line : Line) (z number : ℕ) (m : Msg) (s : Story) (p : Plain) (one : IsLineOfOneZone line) (zone : suc z ≡ zone_id line) (k : Linked line s p) (sound : (t : ℕ) → Sound line t s) where
+  abbrev own : PlainZone
+  own = p.zones (zone_id line)
+
+  abbrev told : ZoneLinked line (zone_id line) s (p.zones (zone_id line))
+  told = the_zone line s p one k
+
   abbrev now_ : ℕ
   now_ = now_with (zone_id line) s m
 
   abbrev ways : List ZoneTrain
-  ways = map (grown_train now_) p.zone.trains
+  ways = map (grown_train now_) own.trains
 
   abbrev behind : List ZoneTrain
   behind = ways_after line (zone_id line) now_ ways m
 
   abbrev e : Effect
-  e = zone_step line (zone_id line) s m
+  e = zone_step line (zone_id line) 0 s m
 
   -- The alarms.
   module _ (after : (t : ℕ) → Sound line t (zone_made z number m e ∷ s)) (grants : (t : ℕ) → controls (zone_id line) t s ≡ true → grants_entry (zone_id line) t (zone_made z number m e) ≡ false) where
@@ -59,7 +66,7 @@ module _ (line : Line) (z number : ℕ) (m : Msg) (s : Story) (p : Plain) (one :
     x = zone_made z number m e
 
     moves : ZoneMoves line s (zone_made z number m e) behind
-    moves = take_moves line z number s p one zone k sound e.lines m ways (grown_of line s p now_ k) after
+    moves = take_moves line z number s p one zone k sound e.lines m ways (grown_of line s own now_ told) after
 
     report_next : (t : ℕ) → controls (zone_id line) t s ≡ true → report_time line (zone_id line) t (zone_made z number m e ∷ s) ≡ report_time_with line (zone_id line) t s m
     report_next t c =
@@ -72,50 +79,50 @@ module _ (line : Line) (z number : ℕ) (m : Msg) (s : Story) (p : Plain) (one :
     report_behind t c =
         let c2 = controls_same (zone_id line) t x s (grants t c) ∙ c in
         ap (λ (y : Option ZoneTrain). report_or y) (moves.found t)
-        ∙ (report_some line t (x ∷ s) (way line (zone_id line) t (x ∷ s)) (way_is_known line t (x ∷ s) one.valid (after t) ∙ c2) ∙ report_next t c)
+        ∙ (report_some line t (x ∷ s) (way line (zone_id line) t (x ∷ s)) (way_is_known line (zone_id line) t (x ∷ s) ∙ c2) ∙ report_next t c)
 
-    alarmed_is : (t : ℕ) (y : ZoneTrain) → find_way t p.zone.trains ≡ Some y → is_alarmed line (now_of (zone_id line) s) now_ behind y ≡ falls_silent line (zone_id line) s m t
+    alarmed_is : (t : ℕ) (y : ZoneTrain) → find_way t own.trains ≡ Some y → is_alarmed line (now_of (zone_id line) s) now_ behind y ≡ falls_silent line (zone_id line) s m t
     alarmed_is t y found =
-        let c = found_controls line s one.valid p.zone.trains k.ways sound t y found in
-        let r = report_by line t s (way line (zone_id line) t s) y (sym (k.ways t) ∙ found) in
+        let c = found_controls line s one.valid own.trains told.ways sound t y found in
+        let r = report_by line t s (way line (zone_id line) t s) y (sym (told.ways t) ∙ found) in
         ap (λ (n : ℕ). not (silent_by line n (now_of (zone_id line) s)) && silent_by line (report_of y.id.0 behind) now_) r.0
         ∙ (ap (λ (n : ℕ). not (is_silent line (zone_id line) t s) && silent_by line (report_of n behind) now_) r.1
         ∙ ap (λ (n : ℕ). not (is_silent line (zone_id line) t s) && silent_by line n now_) (report_behind t c))
 
-    alarms_are : plain_alarms line (zone_id line) (now_of (zone_id line) s) now_ p.zone.trains behind ≡ alarms line (zone_id line) s m
+    alarms_are : plain_alarms line (zone_id line) (now_of (zone_id line) s) now_ own.trains behind ≡ alarms line (zone_id line) s m
     alarms_are =
-        filtered_is (is_alarmed line (now_of (zone_id line) s) now_ behind) (falls_silent line (zone_id line) s m) (alarm_of (zone_id line)) (alarm (zone_id line)) p.zone.trains k.distinct alarmed_is (λ y. refl)
-        ∙ ap (λ (us : List ℕ). map (alarm (zone_id line)) (filter (falls_silent line (zone_id line) s m) us)) k.known
+        filtered_is (is_alarmed line (now_of (zone_id line) s) now_ behind) (falls_silent line (zone_id line) s m) (alarm_of (zone_id line)) (alarm (zone_id line)) own.trains told.distinct alarmed_is (λ y. refl)
+        ∙ ap (λ (us : List ℕ). map (alarm (zone_id line)) (filter (falls_silent line (zone_id line) s m) us)) told.known
 
     -- Heeded.
-    module _ (heeds : zone_heeds line p.zone 0 m ≡ true) where
-      stepped_is : trains_stepped line p.zone 0 m ≡ behind
+    module _ (heeds : zone_heeds line own 0 m ≡ true) where
+      stepped_is : trains_stepped line own 0 m ≡ behind
       stepped_is =
-          ap (λ (b : Bool). if b then ways_after line p.zone.id (clock_after p.zone.clock m) (trains_grown p.zone m) m else trains_grown p.zone m) heeds
-          ∙ (ap (λ (i : ℕ). ways_after line i (clock_after p.zone.clock m) (trains_grown p.zone m) m) k.zone
-          ∙ ap (λ (c : ℕ). ways_after line (zone_id line) (clock_after c m) (map (grown_train (clock_after c m)) p.zone.trains) m) k.clock)
+          ap (λ (b : Bool). if b then ways_after line own.id (clock_after own.clock m) (trains_grown own m) m else trains_grown own m) heeds
+          ∙ (ap (λ (i : ℕ). ways_after line i (clock_after own.clock m) (trains_grown own m) m) told.id
+          ∙ ap (λ (c : ℕ). ways_after line (zone_id line) (clock_after c m) (map (grown_train (clock_after c m)) own.trains) m) told.clock)
 
-      gives_is : zone_gives line p.zone 0 m ≡ zone_takes line (zone_id line) s m
+      gives_is : zone_gives line own 0 m ≡ zone_takes line (zone_id line) 0 s m
       gives_is =
-          ap (λ (b : Bool). if b then zone_answer line p.zone.id (clock_after p.zone.clock m) (trains_grown p.zone m) m else nothing) heeds
-          ∙ (ap (λ (i : ℕ). zone_answer line i (clock_after p.zone.clock m) (trains_grown p.zone m) m) k.zone
-          ∙ (ap (λ (c : ℕ). zone_answer line (zone_id line) (clock_after c m) (map (grown_train (clock_after c m)) p.zone.trains) m) k.clock
-          ∙ sym (answer_now line z number s one zone sound m ways (grown_of line s p now_ k))))
+          ap (λ (b : Bool). if b then zone_answer line own.id (clock_after own.clock m) (trains_grown own m) m else nothing) heeds
+          ∙ (ap (λ (i : ℕ). zone_answer line i (clock_after own.clock m) (trains_grown own m) m) told.id
+          ∙ (ap (λ (c : ℕ). zone_answer line (zone_id line) (clock_after c m) (map (grown_train (clock_after c m)) own.trains) m) told.clock
+          ∙ sym (answer_now line z number s one zone sound m ways (grown_of line s own now_ told))))
 
-      lines_are : plain_alarms line p.zone.id p.zone.clock (clock_after p.zone.clock m) p.zone.trains (trains_stepped line p.zone 0 m) ≡ alarms line (zone_id line) s m
+      lines_are : plain_alarms line own.id own.clock (clock_after own.clock m) own.trains (trains_stepped line own 0 m) ≡ alarms line (zone_id line) s m
       lines_are =
-          ap (λ (xs : List ZoneTrain). plain_alarms line p.zone.id p.zone.clock (clock_after p.zone.clock m) p.zone.trains xs) stepped_is
-          ∙ (ap (λ (i : ℕ). plain_alarms line i p.zone.clock (clock_after p.zone.clock m) p.zone.trains behind) k.zone
-          ∙ (ap (λ (c : ℕ). plain_alarms line (zone_id line) c (clock_after c m) p.zone.trains behind) k.clock ∙ alarms_are))
+          ap (λ (xs : List ZoneTrain). plain_alarms line own.id own.clock (clock_after own.clock m) own.trains xs) stepped_is
+          ∙ (ap (λ (i : ℕ). plain_alarms line i own.clock (clock_after own.clock m) own.trains behind) told.id
+          ∙ (ap (λ (c : ℕ). plain_alarms line (zone_id line) c (clock_after c m) own.trains behind) told.clock ∙ alarms_are))
 
-      pub zone_taken : zone_step line (zone_id line) s m ≡ zone_take_effect line p.zone 0 m
-      zone_taken = sym (ap (λ (y : Effect). with_lines y (plain_alarms line p.zone.id p.zone.clock (clock_after p.zone.clock m) p.zone.trains (trains_stepped line p.zone 0 m))) gives_is
-          ∙ ap (λ (ls : List Outcome). with_lines (zone_takes line (zone_id line) s m) ls) lines_are)
+      pub zone_taken : zone_step line (zone_id line) 0 s m ≡ zone_take_effect line own 0 m
+      zone_taken = sym (ap (λ (y : Effect). with_lines y (plain_alarms line own.id own.clock (clock_after own.clock m) own.trains (trains_stepped line own 0 m))) gives_is
+          ∙ ap (λ (ls : List Outcome). with_lines (zone_takes line (zone_id line) 0 s m) ls) lines_are)
         where
           with_lines : Effect → List Outcome → Effect
           with_lines y ls = record { issued = y.issued; lines = y.lines ++ ls }
 
-      pub zone_take_linked : Linked line (zone_made z number m e ∷ s) (zone_next p (zone_take_next line p.zone 0 m) (zone_take_effect line p.zone 0 m))
+      pub zone_take_linked : Linked line (zone_made z number m e ∷ s) (zone_next p (zone_id line) (zone_take_next line own 0 m) (zone_take_effect line own 0 m))
       zone_take_linked =
-          subst (λ (trains : List ZoneTrain). Linked line (x ∷ s) (zone_next p (record { id = p.zone.id; clock = clock_after p.zone.clock m; trains = trains }) (zone_take_effect line p.zone 0 m))) (sym stepped_is)
-          (zone_linked line z number m e (zone_take_effect line p.zone 0 m) s p behind one zone k moves after (ap (λ (y : Effect). y.issued) (sym zone_taken)))
+          subst (λ (trains : List ZoneTrain). Linked line (x ∷ s) (zone_next p (zone_id line) (record { id = own.id; clock = clock_after own.clock m; trains = trains }) (zone_take_effect line own 0 m))) (sym stepped_is)
+          (zone_linked line z number m e (zone_take_effect line own 0 m) s p behind one zone k moves after (ap (λ (y : Effect). y.issued) (sym zone_taken)))

@@ -26,13 +26,14 @@ use Rattle.plain_state.specs.Zone.{find_way, change_way, full, holder_plain, len
 use Rattle.plain_state.specs.Plain.{Plain, zone_id}
 use Rattle.plain_state.specs.Relation.{Linked}
 use Rattle.motion_laws.proofs.Issued.{AllIn}
+use Rattle.motion_laws.proofs.Controls.{controls_knows}
 use Rattle.sound_laws.proofs.Sound.{Sound}
 use Rattle.link_laws.proofs.Zone_trains.{ids_change, distinct_change}
 use Rattle.link_laws.proofs.Zone_values.{Grown, known_now, full_now, holder_now, reach_now}
 use Rattle.link_laws.proofs.Way_of.{way_of}
 use Rattle.link_laws.proofs.Values.{no_way}
 use Rattle.link_laws.proofs.Unissued.{NoAuth}
-use Rattle.link_laws.proofs.Zone_moves.{zone_made, ZoneMoves}
+use Rattle.link_laws.proofs.Zone_moves.{zone_made, zone_heads, ZoneMoves}
 use Rattle.link_laws.proofs.Quiet_linked.{silent_stays, stay_moves, quiet_moves, again_moves}
 use Rattle.link_laws.proofs.Report_linked.{report_found}
 use Rattle.link_laws.proofs.Entry_linked.{entered_moves}
@@ -89,7 +90,7 @@ module _ (line : Line) (z number : ℕ) (s : Story) (p : Plain) (one : IsLineOfO
         (λ y. rw y (refused nothing refl (λ t. rw y at (after t))))
         (λ n. rw n (by_holder fresh n holder (λ t. rw n at (after t))))
 
-    pub entry_moves : AfterAll entry_m (zone_takes line (zone_id line) s entry_m) → Moves entry_m (zone_takes line (zone_id line) s entry_m) (ways_after line (zone_id line) (now_with (zone_id line) s entry_m) ways entry_m)
+    pub entry_moves : AfterAll entry_m (zone_takes line (zone_id line) 0 s entry_m) → Moves entry_m (zone_takes line (zone_id line) 0 s entry_m) (ways_after line (zone_id line) (now_with (zone_id line) s entry_m) ways entry_m)
     entry_moves after =
         let n = now_with (zone_id line) s entry_m in
         let z0 = zone_id line in
@@ -97,7 +98,7 @@ module _ (line : Line) (z number : ℕ) (s : Story) (p : Plain) (one : IsLineOfO
         ap (λ (b : Bool). entry_ways b (full ways) (holder_plain line z0 ways step.seg.0)) (known_now line s one.valid sound n ways g u.0)
         ∙ (ap (λ (b : Bool). entry_ways (knows z0 u.0 s) b (holder_plain line z0 ways step.seg.0)) (full_now line s one.valid sound n ways g)
         ∙ ap (λ (h : Option ℕ). entry_ways (knows z0 u.0 s) (knows_most z0 s) h) (holder_now line s one.valid sound n ways g step.seg.0)) in
-        subst (λ (xs : List ZoneTrain). Moves entry_m (zone_takes line z0 s entry_m) xs) (sym same) (by_known (knows z0 u.0 s) (knows_most z0 s) (holder_of line z0 s step.seg.0) refl after)
+        subst (λ (xs : List ZoneTrain). Moves entry_m (zone_takes line z0 0 s entry_m) xs) (sym same) (by_known (knows z0 u.0 s) (knows_most z0 s) (holder_of line z0 s step.seg.0) (controls_knows z0 u.0 s) after)
 
   -- An ask.
   module _ (u : TrainId) (time : ℕ) (steps : ArrayVec DirSeg) (to : ℕ) (ways : List ZoneTrain) (g : Grown line s (now_with (zone_id line) s (msg.Ask u time steps to)) ways) where
@@ -135,11 +136,11 @@ module _ (line : Line) (z number : ℕ) (s : Story) (p : Plain) (one : IsLineOfO
         (λ now_after. by_test (nat_eq reach.distance 0)
         (λ y. rw y (denied (λ t. rw y at (now_after t))))
         (λ n. granted c n now_after)) after)
-        (λ o. absurd (let x : None ≡ Some w = sym (no_way line u.0 s (sound u.0) o) ∙ is in cc))
+        (λ o. absurd (let x : None ≡ Some w = sym (no_way line (zone_id line) u.0 s o) ∙ is in cc))
 
-    pub asking_moves : AfterAll ask_m (zone_takes line (zone_id line) s ask_m) → Moves ask_m (zone_takes line (zone_id line) s ask_m) (ways_after line (zone_id line) (now_with (zone_id line) s ask_m) ways ask_m)
+    pub asking_moves : AfterAll ask_m (zone_takes line (zone_id line) 0 s ask_m) → Moves ask_m (zone_takes line (zone_id line) 0 s ask_m) (ways_after line (zone_id line) (now_with (zone_id line) s ask_m) ways ask_m)
     asking_moves after =
-        subst (λ (r : Reach). Moves ask_m (zone_takes line (zone_id line) s ask_m) (ways_asked (seg_len line) u.0 steps.items r ways)) (sym (reach_now line s one.valid sound (now_with (zone_id line) s ask_m) ways g u.0 steps.items to (now_with (zone_id line) s ask_m)))
+        subst (λ (r : Reach). Moves ask_m (zone_takes line (zone_id line) 0 s ask_m) (ways_asked (seg_len line) u.0 steps.items r ways)) (sym (reach_now line s one.valid sound (now_with (zone_id line) s ask_m) ways g u.0 steps.items to (now_with (zone_id line) s ask_m)))
         (ask_by (way line (zone_id line) u.0 s) refl after)
 
   -- A report, the time, and what comes to nothing.
@@ -147,16 +148,16 @@ module _ (line : Line) (z number : ℕ) (s : Story) (p : Plain) (one : IsLineOfO
   report_issued : (u : TrainId) (m : Msg) → (zone_report line (zone_id line) s u m).issued ≡ []
   report_issued u m = by_test (is_used line (zone_id line) u.0 s (possible_front line (zone_id line) u.0 s) m) (λ y. rw y refl) (λ n. rw n refl)
 
-  pub take_moves : (m : Msg) (ways : List ZoneTrain) → Grown line s (now_with (zone_id line) s m) ways → AfterAll m (zone_takes line (zone_id line) s m)
-      → Moves m (zone_takes line (zone_id line) s m) (ways_after line (zone_id line) (now_with (zone_id line) s m) ways m)
+  pub take_moves : (m : Msg) (ways : List ZoneTrain) → Grown line s (now_with (zone_id line) s m) ways → AfterAll m (zone_takes line (zone_id line) 0 s m)
+      → Moves m (zone_takes line (zone_id line) 0 s m) (ways_after line (zone_id line) (now_with (zone_id line) s m) ways m)
   take_moves (msg.EntryAsk u time long error speed equipped step) ways g after = entry_moves u time long error speed equipped step ways g after
   take_moves (msg.Ask u time steps to) ways g after = asking_moves u time steps to ways g after
   take_moves (msg.Report u time mark offset integrity) ways g after =
       let m = msg.Report u time mark offset integrity in
-      let e = issuing (zone_takes line (zone_id line) s m) lines in
+      let e = issuing (zone_takes line (zone_id line) 0 s m) lines in
       let silent : (v : ℕ) → NoAuth v e.issued = λ v. subst (λ (issued : List (ℕ × Msg)). NoAuth v issued) (sym (report_issued u m)) (none_silent v lines) in
       stay_moves line (zone_made z number m e) s p (ways_after line (zone_id line) (now_with (zone_id line) s m) ways m) one k sound after
-      (silent_stays line (zone_made z number m e) s sound after (λ v. and-false (nat_eq (suc z) (zone_id line))) silent)
+      (silent_stays line (zone_made z number m e) s sound after (λ v. and-false (nat_eq (suc z) (zone_id line))) (λ v. zone_heads v z number m e s) silent)
       (report_found line z number u time mark offset integrity s one zone sound ways g e silent after)
       (by_test (uses_mark (find_way u.0 ways) mark)
       (λ y. rw y (ids_change u.0 (reported_by (seg_len line) time mark offset integrity) ways (λ x. refl) ∙ g.known))

@@ -6,7 +6,7 @@ use Rattle.std.specs.Prelude.{nat_eq, nat_lt}
 use Rattle.std.specs.List.{list_any, list_all}
 use Rattle.track_points.specs.declared.ids.TrainId.{TrainId}
 use Rattle.track_points.proofs.Some.{by_test}
-use Rattle.definitions.specs.Control.{placed}
+use Rattle.motion_laws.proofs.Known_trains.{placed}
 use Rattle.definitions.specs.Authority.{least_of}
 use Rattle.plain_state.specs.ZoneTrain.{ZoneTrain}
 use Rattle.plain_state.specs.Zone.{find_way, change_way, placed_way, least_way}

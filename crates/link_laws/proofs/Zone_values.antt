@@ -1,31 +1,28 @@
 -- What the zone's trains tell, their fronts grown or not, is what the story tells.
-use Rattle.std.proofs.Common.{◌≡◌, ℕ, zero, suc, List, length, map, Option, Some, None, Bool, true, false, ◌&&◌, refl, sym, ◌∙◌, ap, arith, not}
-use Rattle.std.proofs.lemmas.Bool.Decides.{nat_tests}
+use Rattle.std.proofs.Common.{◌≡◌, ℕ, List, length, map, Option, Some, None, Bool, true, ◌&&◌, refl, sym, ◌∙◌, ap, not}
 use Rattle.std.proofs.Math.Path.{fun_ext}
 use Rattle.std.specs.Prelude.{nat_eq, nat_le, nat_lt, is_some}
 use Rattle.std.specs.List.{list_any}
 use Rattle.track_points.specs.declared.ids.DirSeg.{DirSeg}
 use Rattle.track_points.specs.Points.{Point, Cell, some_below, path_has}
 use Rattle.track_points.proofs.Some.{by_test}
-use Rattle.definitions.specs.Track.{Line, seg_len, owner}
+use Rattle.definitions.specs.Track.{Line, seg_len, layout, owner}
 use Rattle.definitions.specs.Rules.{is_line}
 use Rattle.definitions.specs.Ways.{PlainWay}
-use Rattle.definitions.specs.Story.{Story, sent}
+use Rattle.definitions.specs.Story.{Story}
 use Rattle.definitions.specs.Control.{controls, knows, knows_most, known_trains, last_issued}
 use Rattle.definitions.specs.Longest.{counted}
 use Rattle.definitions.specs.Fronts.{report_time, silent_by}
 use Rattle.definitions.specs.Authority.{way, way_has, held, least_of, holder_of}
 use Rattle.definitions.specs.Limit.{reach_from, path_of, barring, limit}
-use Rattle.definitions.specs.Track.{is_actor}
-use Rattle.definitions.specs.Safe.{IsLineOfOneZone}
 use Rattle.plain_state.specs.ZoneTrain.{ZoneTrain}
-use Rattle.plain_state.specs.Zone.{find_way, way_found, path_found, last_found, ready_found, silent_found, full, way_on, barring_plain, holder_plain, reach_plain, grown_train}
-use Rattle.plain_state.specs.Plain.{Plain, zone_id, link}
-use Rattle.plain_state.specs.Relation.{ids, Distinct, zone_train_of, zone_train, Linked}
+use Rattle.plain_state.specs.Zone.{PlainZone, find_way, way_found, path_found, last_found, ready_found, silent_found, full, way_on, barring_plain, holder_plain, reach_plain, grown_train}
+use Rattle.plain_state.specs.Plain.{zone_id}
+use Rattle.plain_state.specs.Relation.{ids, Distinct, zone_train_of, zone_train, ZoneLinked}
+use Rattle.motion_laws.proofs.Controls.{controls_knows}
 use Rattle.sound_laws.proofs.Sound.{Sound}
 use Rattle.link_laws.proofs.World_trains.{mapped}
 use Rattle.link_laws.proofs.Zone_trains.{any_is, least_is, ids_length, way_mapped, ids_mapped, distinct_mapped}
-use Rattle.link_laws.proofs.One_zone.{actor_zone}
 use Rattle.link_laws.proofs.Values.{way_is_known, no_way_unknown}
 
 -- the trains of a zone, their fronts grown at a clock
@@ -34,11 +31,11 @@ pub record Grown (line : Line) (s : Story) (clock : ℕ) (ways : List ZoneTrain)
   pub known : ids ways ≡ known_trains (zone_id line) s
   pub distinct : Distinct ways
 
-pub grown_of : (line : Line) (s : Story) (p : Plain) (clock : ℕ) → Linked line s p → Grown line s clock (map (grown_train clock) p.zone.trains)
-grown_of line s p clock k = record {
-  found = λ t. way_mapped t (grown_train clock) p.zone.trains (λ x. refl) ∙ ap (λ (x : Option ZoneTrain). mapped (grown_train clock) x) (k.ways t);
-  known = ids_mapped (grown_train clock) p.zone.trains (λ x. refl) ∙ k.known;
-  distinct = distinct_mapped (grown_train clock) p.zone.trains (λ x. refl) k.distinct;
+pub grown_of : (line : Line) (s : Story) (y : PlainZone) (clock : ℕ) → ZoneLinked line (zone_id line) s y → Grown line s clock (map (grown_train clock) y.trains)
+grown_of line s y clock k = record {
+  found = λ t. way_mapped t (grown_train clock) y.trains (λ x. refl) ∙ ap (λ (x : Option ZoneTrain). mapped (grown_train clock) x) (k.ways t);
+  known = ids_mapped (grown_train clock) y.trains (λ x. refl) ∙ k.known;
+  distinct = distinct_mapped (grown_train clock) y.trains (λ x. refl) k.distinct;
 }
 
 -- What is found of a train of the zone.
@@ -78,20 +75,19 @@ module _ (line : Line) (s : Story) (valid : is_line line ≡ true) (sound : (t :
 
   pub last_now : (t : ℕ) → last_found (find_way t ways) ≡ last_issued t s
   last_now t = ap (λ (x : Option ZoneTrain). last_found x) (g.found t)
-      ∙ last_by line t s clock (way line (zone_id line) t s) (λ h. (sound t).authorized.unknown (no_way_unknown line t s valid (sound t) h))
+      ∙ last_by line t s clock (way line (zone_id line) t s) (λ h. (sound t).authorized.unknown (no_way_unknown line (zone_id line) t s h))
 
   pub known_now : (t : ℕ) → is_some (find_way t ways) ≡ knows (zone_id line) t s
-  known_now t = ap (λ (x : Option ZoneTrain). is_some x) (g.found t) ∙ (some_by line t s clock (way line (zone_id line) t s) ∙ way_is_known line t s valid (sound t))
+  known_now t = ap (λ (x : Option ZoneTrain). is_some x) (g.found t) ∙ (some_by line t s clock (way line (zone_id line) t s) ∙ (way_is_known line (zone_id line) t s ∙ controls_knows (zone_id line) t s))
 
   pub full_now : full ways ≡ knows_most (zone_id line) s
   full_now = ap (λ (n : ℕ). nat_le 256 n) (sym (ids_length ways)) ∙ ap (λ (xs : List ℕ). nat_le 256 (length xs)) g.known
 
   -- a way that is found is what is held for its train
-  held_found : (t : ℕ) (x : ZoneTrain) (point : Point) → find_way t ways ≡ Some x → held line (zone_id line) t s point ≡ (nat_eq (owner line point) (zone_id line) && path_has (seg_len line) x.way.path point)
+  held_found : (t : ℕ) (x : ZoneTrain) (point : Point) → find_way t ways ≡ Some x → held line (zone_id line) t s point ≡ (nat_eq (owner line point) (zone_id line) && path_has (layout line) x.way.path point)
   held_found t x point found =
-      let known : controls (zone_id line) t s ≡ true = sym (known_now t) ∙ ap (λ (y : Option ZoneTrain). is_some y) found in
       let is : way line (zone_id line) t s ≡ Some x.way = sym (way_now t) ∙ ap (λ (y : Option ZoneTrain). way_found y) found in
-      rw known (ap (λ (w : Option PlainWay). nat_eq (owner line point) (zone_id line) && way_has (seg_len line) w point) is)
+      ap (λ (w : Option PlainWay). nat_eq (owner line point) (zone_id line) && way_has (layout line) w point) is
 
   pub found_id : (t : ℕ) (x : ZoneTrain) → find_way t ways ≡ Some x → x.id.0 ≡ t
   found_id t x found = id_by line t s clock (way line (zone_id line) t s) x (sym (g.found t) ∙ found)
@@ -99,10 +95,10 @@ module _ (line : Line) (s : Story) (valid : is_line line ≡ true) (sound : (t :
   barring_now : (t : ℕ) (point : Point) → barring_plain line (zone_id line) ways t point ≡ barring line (zone_id line) t s point
   barring_now t point = by_test (nat_eq (owner line point) (zone_id line))
       (λ own.
-      let f : ZoneTrain → Bool = λ x. not (nat_eq x.id.0 t) && path_has (seg_len line) x.way.path point in
+      let f : ZoneTrain → Bool = λ x. not (nat_eq x.id.0 t) && path_has (layout line) x.way.path point in
       let k : ℕ → Bool = λ u. not (nat_eq u t) && held line (zone_id line) u s point in
       let same : list_any f ways ≡ list_any k (ids ways) = any_is f k ways g.distinct (λ u x found.
-      ap (λ (i : ℕ). not (nat_eq i t) && path_has (seg_len line) x.way.path point) (found_id u x found)
+      ap (λ (i : ℕ). not (nat_eq i t) && path_has (layout line) x.way.path point) (found_id u x found)
       ∙ sym (ap (λ (b : Bool). not (nat_eq u t) && b) (held_found u x point found ∙ rw own refl))) in
       let listed : list_any k (ids ways) ≡ list_any k (known_trains (zone_id line) s) = ap (λ (xs : List ℕ). list_any k xs) g.known in
       ap (λ (b : Bool). nat_eq (owner line point) (zone_id line) && b) (same ∙ listed))
@@ -122,22 +118,5 @@ module _ (line : Line) (s : Story) (valid : is_line line ≡ true) (sound : (t :
       let w = way line z t s in
       ap (λ (x : Option ZoneTrain). reach_from line (ready_found x) (silent_found line now_ x) (path_found x) asked to (barring_plain line z ways t)) (g.found t)
       ∙ (reach_by line t s clock w asked to now_ (barring_plain line z ways t)
-      ∙ (ap (λ (b : Bool). reach_from line (b && nat_lt 0 (counted line t s)) (silent_by line (report_time line z t s) now_) (path_of w) asked to (barring_plain line z ways t)) (way_is_known line t s valid (sound t))
+      ∙ (ap (λ (b : Bool). reach_from line (b && nat_lt 0 (counted line t s)) (silent_by line (report_time line z t s) now_) (path_of w) asked to (barring_plain line z ways t)) (way_is_known line z t s)
       ∙ ap (λ (test : Point → Bool). reach_from line (controls z t s && nat_lt 0 (counted line t s)) (silent_by line (report_time line z t s) now_) (path_of w) asked to test) held_same))
-
--- the messages of the link between two different actors of the line
-pub link_is : (line : Line) (s : Story) (p : Plain) → IsLineOfOneZone line → Linked line s p → (from to : ℕ) → nat_eq to from ≡ false → is_actor line to ≡ true → is_actor line from ≡ true → link p from to ≡ sent from to s
-link_is line s p l k zero zero h a b = absurd cc
-link_is line s p l k zero (suc to) h a b =
-    let z = actor_zone line to l a in
-    let same : nat_eq (suc to) p.zone.id ≡ true = let e = k.zone in grind (arith, nat_tests) in
-    rw same (k.to_zone ∙ ap (λ (n : ℕ). sent 0 n s) (sym z))
-link_is line s p l k (suc from) zero h a b =
-    let z = actor_zone line from l b in
-    let other : nat_eq (suc from) 0 ≡ false = grind (arith, nat_tests) in
-    let same : nat_eq (suc from) p.zone.id ≡ true = let e = k.zone in grind (arith, nat_tests) in
-    rw (other, same) (k.to_world ∙ ap (λ (n : ℕ). sent n 0 s) (sym z))
-link_is line s p l k (suc from) (suc to) h a b =
-    let y = actor_zone line from l b in
-    let z = actor_zone line to l a in
-    absurd (let same : nat_eq (suc to) (suc from) ≡ true = grind (arith, nat_tests) in cc)

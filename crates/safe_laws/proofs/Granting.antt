@@ -9,17 +9,17 @@ use Rattle.arrayvec.specs.ArrayVec.{ArrayVec}
 use Rattle.track_points.specs.declared.ids.DirSeg.{DirSeg}
 use Rattle.track_points.specs.declared.ids.TrainId.{TrainId}
 use Rattle.track_points.specs.declared.path.Path.{Path}
-use Rattle.track_points.specs.Points.{Lengths, Point, total, end_place, has_between}
+use Rattle.track_points.specs.Points.{Lengths, Layout, Point, total, end_place, has_between}
 use Rattle.track_points.proofs.Some.{by_test}
 use Rattle.definitions.specs.declared.event.Event.{Event}
 use Rattle.definitions.specs.declared.event.Event.TheVariants.{Train, Entry, Enter, Ask, Step, Report, Time, Take, Deliver}
 use Rattle.definitions.specs.declared.message.Msg.{Msg}
 use Rattle.definitions.specs.declared.message.Msg.TheVariants as msg
 use Rattle.definitions.specs.declared.outcome.Outcome.{Outcome}
-use Rattle.definitions.specs.Track.{Line, seg_len, zone_of, is_actor}
+use Rattle.definitions.specs.Track.{Line, seg_len, layout, zone_of, is_actor}
 use Rattle.definitions.specs.Ways.{PlainWay}
 use Rattle.definitions.specs.Story.{Entry as Made, Story}
-use Rattle.definitions.specs.World.{Facts, facts_of, clock, is_auth, entry_authority, entered, last_number, first_entry}
+use Rattle.definitions.specs.World.{Facts, facts_of, clock, is_auth, entry_authority, entered, last_number, head, goes_on, journey, authority_end}
 use Rattle.definitions.specs.Control.{controls, knows, knows_most, now_with, last_issued}
 use Rattle.definitions.specs.Longest.{counted, longest_end}
 use Rattle.definitions.specs.Fronts.{is_used, possible_front, report_time, silent_by}
@@ -31,16 +31,18 @@ use Rattle.plain_state.specs.Plain.{zone_id}
 use Rattle.way_laws.proofs.Cut.{none_between}
 use Rattle.way_laws.proofs.Reach.{reach_is, reach_granted}
 use Rattle.motion_laws.proofs.Notions.{both}
-use Rattle.motion_laws.proofs.Issued.{issued_all}
+use Rattle.motion_laws.proofs.Issued.{AllIn, issued_all}
 use Rattle.motion_laws.proofs.Admitted.{Admitted}
-use Rattle.motion_laws.proofs.Motion.{Timed}
+use Rattle.motion_laws.proofs.Motion.{Timed, heads_grow}
+use Rattle.journey_laws.proofs.Journey.{head_still}
 use Rattle.sound_laws.proofs.Sound.{RequestTrue, Sound}
+use Rattle.front_laws.proofs.Route_goes_on.{AuthHas}
 use Rattle.safe_laws.proofs.Zones.{actor_zone}
 use Rattle.safe_laws.proofs.Ways_held.{held_way, way_is}
-use Rattle.safe_laws.proofs.Asked.{held_way_some, held_way_within, way_place_end}
+use Rattle.safe_laws.proofs.Asked.{held_way_some, held_way_within, held_way_ends}
 use Rattle.safe_laws.proofs.Calm.{Adds, calm_adds, no_auth_calm, added_here}
 use Rattle.safe_laws.proofs.Entry_adds.{take_made, entry_adds}
-use Rattle.safe_laws.proofs.Ask_adds.{end_one, ask_adds}
+use Rattle.safe_laws.proofs.Ask_adds.{ask_adds}
 
 -- whether some message is an authority of the train
 abbrev has_auth : ℕ → List (ℕ × Msg) → Bool
@@ -91,13 +93,13 @@ denied : (len : Lengths) (z : ℕ) (u : TrainId) (last : ℕ) (w : Option PlainW
 denied len z u last None asked r h = refl
 denied len z u last (Some w) asked r h = rw h refl
 
-none_reached : (len : Lengths) (w : Option PlainWay) (asked : List DirSeg) (d : ℕ) (point : Point) → nat_eq d 0 ≡ true → reached len w asked d point ≡ false
-none_reached len None asked d point h = refl
-none_reached len (Some w) asked d point h =
-    let end = end_place len w.path in
+none_reached : (layout : Layout) (w : Option PlainWay) (asked : List DirSeg) (d : ℕ) (point : Point) → nat_eq d 0 ≡ true → reached layout w asked d point ≡ false
+none_reached layout None asked d point h = refl
+none_reached layout (Some w) asked d point h =
+    let end = end_place layout.len w.path in
     let zero_ = eqb-true d 0 h in
     let e : end + d ≡ end = omega arith in
-    ap (λ (hi : ℕ). has_between len (asked_way w.path.steps.items asked) end hi point) e ∙ none_between point len (asked_way w.path.steps.items asked) end
+    ap (λ (hi : ℕ). has_between layout (asked_way w.path.steps.items asked) end hi point) e ∙ none_between point layout (asked_way w.path.steps.items asked) end
 
 granted_issued : (len : Lengths) (z : ℕ) (u : TrainId) (last : ℕ) (w : PlainWay) (asked : List DirSeg) (r : Reach) → nat_eq r.distance 0 ≡ false
     → (zone_ask len z u last (Some w) asked r).issued ≡ (0, msg.Auth u (last + 1) w.mark (path_to len w.path.from (asked_way w.path.steps.items asked) (end_place len w.path + r.distance))) ∷ []
@@ -105,6 +107,16 @@ granted_issued len z u last w asked r h = rw h refl
 
 quiet_time : (controlled : Bool) (counted_ last : ℕ) (u : TrainId) (w : Option PlainWay) → (controlled && nat_lt counted_ last) ≡ false → (zone_time controlled counted_ last u w).issued ≡ []
 quiet_time controlled counted_ last u w h = rw h refl
+
+-- a take moves no train
+take_heads : (t : ℕ) (x : Made) (s : Story) → goes_on t x.event ≡ false → head t s ≤ head t (x ∷ s)
+take_heads t x s still = let h = head_still t x s still in omega (arith, h)
+
+-- the way alone, issued once more
+again_ends : (line : Line) (t number end : ℕ) (s : Story) (u : TrainId) (w : PlainWay) (x : Made) → x.issued ≡ (0, msg.Auth u number w.mark w.path) ∷ []
+    → authority_end (seg_len line) (journey line t (x ∷ s)) (record { mark = w.mark; path = w.path }) ≡ end → AllIn (AuthHas (λ a. authority_end (seg_len line) (journey line t (x ∷ s)) a ≤ end) t) x.issued
+unfolding AllIn
+again_ends line t number end s u w x is e = subst (λ (issued : List (ℕ × Msg)). AllIn (AuthHas (λ a. authority_end (seg_len line) (journey line t (x ∷ s)) a ≤ end) t) issued) (sym is) ((λ y. omega (arith, e)), tt)
 
 -- A take of the zone.
 module _ (line : Line) (t z from number : ℕ) (s : Story) (lines : List Outcome) (l : IsLineOfOneZone line) (zone : suc z ≡ zone_id line) (sound : Sound line t s) where
@@ -118,7 +130,7 @@ module _ (line : Line) (t z from number : ℕ) (s : Story) (lines : List Outcome
   none_goes : (m : Msg) (issued : List (ℕ × Msg)) → has_auth t issued ≡ false → ((point : Point) → added_by line (suc z) t s m point ≡ false) → Goes m issued
   none_goes m issued none unadded after =
       let x = take_made (suc z) from number m issued lines in
-      calm_adds line t s x l sound after (no_auth_calm line t s x none (λ y point. added_here line z t from s m point (unadded point) y))
+      calm_adds line t s x l sound after (no_auth_calm line t s x none (take_heads t x s refl) (λ y point. added_here line z t from s m point (unadded point) y))
 
   silent_goes : (m : Msg) (issued : List (ℕ × Msg)) → issued ≡ [] → ((point : Point) → added_by line (suc z) t s m point ≡ false) → Goes m issued
   silent_goes m issued is unadded = none_goes m issued (ap (λ (xs : List (ℕ × Msg)). has_auth t xs) is) unadded
@@ -145,21 +157,21 @@ module _ (line : Line) (t z from number : ℕ) (s : Story) (lines : List Outcome
         (λ other. none_goes entry_message ((0, msg.Auth u 1 0 (entry_path step (seg_len line step.seg.0))) ∷ []) (rw other refl) (λ point. is_not u _ other))
 
     entry_goes : RequestTrue line t s (msg.EntryAsk u time long error speed equipped step)
-        → Goes (msg.EntryAsk u time long error speed equipped step) (zone_takes line (suc z) s (msg.EntryAsk u time long error speed equipped step)).issued
+        → Goes (msg.EntryAsk u time long error speed equipped step) (zone_takes line (suc z) from s (msg.EntryAsk u time long error speed equipped step)).issued
     entry_goes request =
         by_test (knows (suc z) u.0 s)
-        (λ known. silent_goes entry_message (zone_takes line (suc z) s entry_message).issued (rw known refl)
+        (λ known. silent_goes entry_message (zone_takes line (suc z) from s entry_message).issued (rw known refl)
         (λ point. by_test (nat_eq u.0 t)
         (λ its. let k : knows (suc z) t s ≡ true = subst (λ (n : ℕ). knows (suc z) n s ≡ true) (eqb-true u.0 t its) known in rw (its, k) refl)
         (λ other. is_not u _ other)))
         (λ fresh. by_test (knows_most (suc z) s)
-        (λ full. silent_goes entry_message (zone_takes line (suc z) s entry_message).issued (rw (fresh, full) refl)
+        (λ full. silent_goes entry_message (zone_takes line (suc z) from s entry_message).issued (rw (fresh, full) refl)
         (λ point. rw (full, and-false (not (knows (suc z) t s)), and-false (nat_eq u.0 t)) refl))
         (λ few. by_test (nat_lt (seg_len line step.seg.0) long)
-        (λ too. silent_goes entry_message (zone_takes line (suc z) s entry_message).issued (rw (fresh, few, too) refl)
+        (λ too. silent_goes entry_message (zone_takes line (suc z) from s entry_message).issued (rw (fresh, few, too) refl)
         (λ point. rw (too, few, and-false (not (knows (suc z) t s)), and-false (nat_eq u.0 t)) refl))
         (λ room.
-        let is : (zone_takes line (suc z) s entry_message).issued ≡ (enter_or_held (suc z) (seg_len line step.seg.0) u step (holder_of line (suc z) s step.seg.0)).issued = rw (fresh, few, room) refl in
+        let is : (zone_takes line (suc z) from s entry_message).issued ≡ (enter_or_held (suc z) (seg_len line step.seg.0) u step (holder_of line (suc z) s step.seg.0)).issued = rw (fresh, few, room) refl in
         subst (λ (issued : List (ℕ × Msg)). Goes entry_message issued) (sym is)
         (open_goes request (holder_of line (suc z) s step.seg.0) refl fresh few room))))
 
@@ -194,7 +206,7 @@ module _ (line : Line) (t z from number : ℕ) (s : Story) (lines : List Outcome
     denied_goes : nat_eq (reach_of t).distance 0 ≡ true → Goes ask_message (ask_issued t)
     denied_goes none =
         silent_goes ask_message (ask_issued t) (denied len (suc z) u (last_issued t s) (way line (suc z) t s) steps.items (reach_of t) none)
-        (λ point. ap (λ (b : Bool). nat_eq u.0 t && b) (none_reached len (way line (suc z) t s) steps.items (reach_of t).distance point none) ∙ and-false (nat_eq u.0 t))
+        (λ point. ap (λ (b : Bool). nat_eq u.0 t && b) (none_reached (layout line) (way line (suc z) t s) steps.items (reach_of t).distance point none) ∙ and-false (nat_eq u.0 t))
 
     granted_goes : nat_eq u.0 t ≡ true → controls (suc z) t s ≡ true → nat_eq (reach_of t).distance 0 ≡ false → Goes ask_message (ask_issued t)
     granted_goes its controlled some =
@@ -207,8 +219,8 @@ module _ (line : Line) (t z from number : ℕ) (s : Story) (lines : List Outcome
         ap (λ (v : Option PlainWay). (reach_from line ready silent (path_of v) steps.items to (barring line (suc z) t s)).distance) is in
         let far = subst (λ (n : ℕ). end_place len w.path + n ≤ total len (asked_way w.path.steps.items steps.items)) (sym d_is)
         (reach_granted line ready silent w.path steps.items to (barring line (suc z) t s) (held_way_some line t s l sound control) (held_way_within line t s l sound control)) in
-        let adding : (point : Point) → added_by line (suc z) t s ask_message point ≡ has_between len (asked_way w.path.steps.items steps.items) (end_place len w.path) (end_place len w.path + d) point =
-        λ point. ap (λ (b : Bool). b && reached len (way line (suc z) t s) steps.items d point) its ∙ ap (λ (v : Option PlainWay). reached len v steps.items d point) is in
+        let adding : (point : Point) → added_by line (suc z) t s ask_message point ≡ has_between (layout line) (asked_way w.path.steps.items steps.items) (end_place len w.path) (end_place len w.path + d) point =
+        λ point. ap (λ (b : Bool). b && reached (layout line) (way line (suc z) t s) steps.items d point) its ∙ ap (λ (v : Option PlainWay). reached (layout line) v steps.items d point) is in
         let issued_is = ap (λ (v : Option PlainWay). (zone_ask len (suc z) u (last_issued t s) v steps.items (reach_of t)).issued) is
         ∙ granted_issued len (suc z) u (last_issued t s) w steps.items (reach_of t) some in
         subst (λ (issued : List (ℕ × Msg)). Goes ask_message issued) (sym issued_is)
@@ -238,10 +250,10 @@ module _ (line : Line) (t z from number : ℕ) (s : Story) (lines : List Outcome
     again_goes controlled after =
         let control = here_control controlled in
         let x = take_made (suc z) from number (msg.Time time u) ((0, msg.Auth u (last_issued t s) w.mark w.path) ∷ []) lines in
-        let e = way_place_end line t s l sound control in
         calm_adds line t s x l sound after record {
           refused = λ y. and-false (nat_eq (suc z) y);
-          ends = λ k h. end_one line (first_entry t s) t k 0 (last_issued t s) w.mark u w.path (longest_end line t s) (omega arith);
+          heads = take_heads t x s refl;
+          ends = λ h. again_ends line t (last_issued t s) (longest_end line t s) s u w x refl (held_way_ends line t s l sound control x refl);
           adds_none = λ y point. added_here line z t from s (msg.Time time u) point refl y;
         }
 
@@ -259,7 +271,7 @@ module _ (line : Line) (t z from number : ℕ) (s : Story) (lines : List Outcome
         (λ its. subst (λ (n : ℕ). Goes (msg.Time time u) (time_issued n)) (sym (eqb-true u.0 t its)) mine_time)
         (λ other. none_goes (msg.Time time u) (time_issued u.0) (other_time t (controls (suc z) u.0 s) (counted line u.0 s) (last_issued u.0 s) u (way line (suc z) u.0 s) other) (λ point. refl))
 
-  zone_goes : (m : Msg) → RequestTrue line t s m → Goes m (zone_takes line (suc z) s m).issued
+  zone_goes : (m : Msg) → RequestTrue line t s m → Goes m (zone_takes line (suc z) from s m).issued
   zone_goes (msg.EntryAsk u time long error speed equipped step) request = entry_goes u time long error speed equipped step request
   zone_goes (msg.Ask u time steps to) request = ask_goes u time to steps
   zone_goes (msg.Report u time mark offset integrity) request =
@@ -273,8 +285,8 @@ module _ (line : Line) (t z from number : ℕ) (s : Story) (lines : List Outcome
 
 -- Each event.
 
-world_adds : (line : Line) (t : ℕ) (s : Story) (e : Event) (x : Effect) → has_auth t x.issued ≡ false → IsLineOfOneZone line → Sound line t s → Sound line t (made e 0 None x ∷ s) → Adds line t s (made e 0 None x)
-world_adds line t s e x none l sound after = calm_adds line t s (made e 0 None x) l sound after (no_auth_calm line t s (made e 0 None x) none (λ y point. refl))
+world_adds : (line : Line) (t : ℕ) (s : Story) (e : Event) (x : Effect) → has_auth t x.issued ≡ false → IsLineOfOneZone line → Sound line t s → Sound line t (made e 0 None x ∷ s) → head t s ≤ head t (made e 0 None x ∷ s) → Adds line t s (made e 0 None x)
+world_adds line t s e x none l sound after heads = calm_adds line t s (made e 0 None x) l sound after (no_auth_calm line t s (made e 0 None x) none heads (λ y point. refl))
 
 untaken : (line : Line) (y t : ℕ) (s : Story) (to : ℕ) (point : Point) → added line y t s to None point ≡ false
 untaken line y t s zero point = refl
@@ -284,40 +296,40 @@ take_adds : (line : Line) (t to from number : ℕ) (s : Story) (r : Option Msg) 
     → Sound line t (taking line s (Take to from number) to from r ∷ s) → Adds line t s (taking line s (Take to from number) to from r)
 take_adds line t to from number s None l actor is sound after =
     let x : Made = made (Take to from number) to None nothing in
-    calm_adds line t s x l sound after (no_auth_calm line t s x refl (λ y point. untaken line y t s to point))
+    calm_adds line t s x l sound after (no_auth_calm line t s x refl (take_heads t x s refl) (λ y point. untaken line y t s to point))
 take_adds line t zero from number s (Some m) l actor is sound after =
     let x : Made = made (Take 0 from number) 0 (Some (from, m)) (world_takes s from m) in
-    calm_adds line t s x l sound after (no_auth_calm line t s x (world_none t s from m) (λ y point. refl))
+    calm_adds line t s x l sound after (no_auth_calm line t s x (world_none t s from m) (take_heads t x s refl) (λ y point. refl))
 take_adds line t (suc z) from number s (Some m) l actor is sound after =
-    zone_goes line t z from number s ((zone_takes line (suc z) s m).lines ++ alarms line (suc z) s m) l (actor_zone line z l actor) sound m
+    zone_goes line t z from number s ((zone_takes line (suc z) from s m).lines ++ alarms line (suc z) s m) l (actor_zone line z l actor) sound m
     (issued_all (RequestTrue line t s) from (suc z) s (number - 1) m sound.authorized.requests is) after
 
 event_adds : (line : Line) (t : ℕ) (s : Story) (e : Event) → IsLineOfOneZone line → Admitted line s e → Sound line t s → Sound line t (effects line s e ∷ s) → Adds line t s (effects line s e)
-event_adds line t s (Train u long error speed kind) l a sound after = world_adds line t s (Train u long error speed kind) nothing refl l sound after
+event_adds line t s (Train u long error speed kind) l a sound after = world_adds line t s (Train u long error speed kind) nothing refl l sound after (heads_grow line t s (Train u long error speed kind) a sound.motion)
 event_adds line t s (Entry u step) l a sound after =
-    world_adds line t s (Entry u step) (requesting (clock s) u step (zone_of line step.seg.0) (facts_of u.0 s)) (request_none t (clock s) u step (zone_of line step.seg.0) (facts_of u.0 s)) l sound after
+    world_adds line t s (Entry u step) (requesting (clock s) u step (zone_of line step.seg.0) (facts_of u.0 s)) (request_none t (clock s) u step (zone_of line step.seg.0) (facts_of u.0 s)) l sound after (heads_grow line t s (Entry u step) a sound.motion)
 event_adds line t s (Enter u) l a sound after =
-    world_adds line t s (Enter u) (entering (clock s) u (sender_of (entry_authority u.0 s))) (enter_none t (clock s) u (sender_of (entry_authority u.0 s))) l sound after
-event_adds line t s (Ask u z steps to) l a sound after = world_adds line t s (Ask u z steps to) (telling z.0 (msg.Ask u (clock s) steps to)) refl l sound after
-event_adds line t s (Step ms moves) l a sound after = world_adds line t s (Step ms moves) nothing refl l sound after
+    world_adds line t s (Enter u) (entering (clock s) u (sender_of (entry_authority u.0 s))) (enter_none t (clock s) u (sender_of (entry_authority u.0 s))) l sound after (heads_grow line t s (Enter u) a sound.motion)
+event_adds line t s (Ask u z steps to) l a sound after = world_adds line t s (Ask u z steps to) (telling z.0 (msg.Ask u (clock s) steps to)) refl l sound after (heads_grow line t s (Ask u z steps to) a sound.motion)
+event_adds line t s (Step ms moves) l a sound after = world_adds line t s (Step ms moves) nothing refl l sound after (heads_grow line t s (Step ms moves) a sound.motion)
 event_adds line t s (Report u z step offset whole) l a sound after =
-    world_adds line t s (Report u z step offset whole) (telling z.0 (reporting line s u offset whole)) refl l sound after
-event_adds line t s (Time z u) l a sound after = world_adds line t s (Time z u) (telling z.0 (msg.Time (clock s) u)) refl l sound after
+    world_adds line t s (Report u z step offset whole) (telling z.0 (reporting line s u offset whole)) refl l sound after (heads_grow line t s (Report u z step offset whole) a sound.motion)
+event_adds line t s (Time z u) l a sound after = world_adds line t s (Time z u) (telling z.0 (msg.Time (clock s) u)) refl l sound after (heads_grow line t s (Time z u) a sound.motion)
 event_adds line t s (Take to from number) l a sound after =
     let f = both (not (nat_eq to from)) (is_actor line to && is_actor line from) a.form in
     take_adds line t to from number s (message from to number s) l (both (is_actor line to) (is_actor line from) f.1).0 refl sound after
-event_adds line t s (Deliver to) l a sound after = world_adds line t s (Deliver to) nothing refl l sound after
+event_adds line t s (Deliver to) l a sound after = world_adds line t s (Deliver to) nothing refl l sound after (heads_grow line t s (Deliver to) a sound.motion)
 
 -- an ask that no bar refuses reaches exactly the first obstacle
 ask_reaches : (line : Line) (s : Story) (z t now_ to : ℕ) (asked : List DirSeg) (way_ : PlainWay) → way line z t s ≡ Some way_ → (controls z t s && nat_lt 0 (counted line t s)) ≡ true
     → continues line way_.path.steps.items asked ≡ true → silent_by line (report_time line z t s) now_ ≡ false
-    → IsReach (seg_len line) (ask_of (seg_len line) way_.path asked to (barring line z t s)) (limit line z t s now_ asked to)
+    → IsReach (layout line) (ask_of (seg_len line) way_.path asked to (barring line z t s)) (limit line z t s now_ asked to)
 ask_reaches line s z t now_ to asked way_ is ready joins quiet =
     let bars = barring line z t s in
     let e : limit line z t s now_ asked to ≡ reach_from line (controls z t s && nat_lt 0 (counted line t s)) (silent_by line (report_time line z t s) now_) (Some way_.path) asked to bars =
     ap (λ (v : Option PlainWay). reach_from line (controls z t s && nat_lt 0 (counted line t s)) (silent_by line (report_time line z t s) now_) (path_of v) asked to bars) is in
-    subst (λ (r : Reach). IsReach (seg_len line) (ask_of (seg_len line) way_.path asked to bars) r) (sym e)
-    (rw (ready, joins, quiet) (reach_is (seg_len line) (ask_of (seg_len line) way_.path asked to bars)))
+    subst (λ (r : Reach). IsReach (layout line) (ask_of (seg_len line) way_.path asked to bars) r) (sym e)
+    (rw (ready, joins, quiet) (reach_is (layout line) (ask_of (seg_len line) way_.path asked to bars)))
 
 pub granted_step : (line : Line) (s : Story) (e : Event) → IsLineOfOneZone line → Admitted line s e → Timed s → ((t : ℕ) → Sound line t s) → ((t : ℕ) → Sound line t (effects line s e ∷ s)) → Granted line s e
 granted_step line s e l a timed sound after = record {

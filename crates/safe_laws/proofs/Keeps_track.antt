@@ -1,10 +1,10 @@
 -- No train on the line is derailed: its journey leads to its head, and its cells lie on few steps.
-use Rattle.std.proofs.Common.{◌≡◌, ℕ, ◌+◌, ◌≤◌, List, length, take, Some, true, false, ap, arith}
+use Rattle.std.proofs.Common.{◌≡◌, ℕ, ◌+◌, ◌≤◌, List, length, take, true, false, ap, arith}
 use Rattle.std.proofs.lemmas.Bool.Decides.{nat_tests}
 use Rattle.std.proofs.lemmas.List.{length-append, length-take}
 use Rattle.track_points.specs.declared.ids.DirSeg.{DirSeg}
-use Rattle.track_points.specs.Points.{Lengths, total, steps_to}
-use Rattle.definitions.specs.Track.{Line, seg_len, track_from}
+use Rattle.track_points.specs.Points.{Lengths, total}
+use Rattle.definitions.specs.Track.{Line, seg_len}
 use Rattle.definitions.specs.Farther.{route_or_none}
 use Rattle.definitions.specs.Ways.{off_track, crowded}
 use Rattle.definitions.specs.Story.{Story}
@@ -13,14 +13,11 @@ use Rattle.definitions.specs.Control.{controls}
 use Rattle.definitions.specs.Longest.{longest_end, longest_route}
 use Rattle.definitions.specs.Safe.{IsLineOfOneZone, OnTrack}
 use Rattle.plain_state.specs.Plain.{zone_id}
-use Rattle.way_laws.proofs.Cut.{cut_few, cut_front, cut_total}
+use Rattle.way_laws.proofs.Cut.{cut_few, cut_total}
 use Rattle.way_laws.proofs.Between_places.{behind_least}
-use Rattle.journey_laws.proofs.Journey.{journey_track}
-use Rattle.journey_laws.proofs.Once.{track_once}
-use Rattle.way_laws.proofs.Lines.{portal_on_line}
+use Rattle.journey_laws.proofs.Once.{journey_few}
 use Rattle.sound_laws.proofs.Sound.{Controlled, Sound}
-use Rattle.sound_laws.proofs.One_route.{OneRoute, one_route, path_ends, end_is}
-use Rattle.safe_laws.proofs.Covering.{on_controlled}
+use Rattle.sound_laws.proofs.One_route.{OneRoute, one_route, path_parts, on_controls}
 use Rattle.safe_laws.proofs.Ways_held.{rear_behind}
 
 module _ (line : Line) (t : ℕ) (s : Story) (l : IsLineOfOneZone line) (sound : Sound line t s) (on : entered t s ≡ true) where
@@ -28,13 +25,13 @@ module _ (line : Line) (t : ℕ) (s : Story) (l : IsLineOfOneZone line) (sound :
   len = seg_len line
 
   control : controls (zone_id line) t s ≡ true
-  control = on_controlled line t s sound on
+  control = on_controls line t s sound.authorized on
 
   abbrev c : Controlled line t s
   c = sound.authorized.controlled control
 
   one : OneRoute line t s (longest_route line t s) (longest_end line t s)
-  one = one_route line t s l.valid sound.motion sound.authorized control
+  one = one_route line t s sound.authorized control sound.motion
 
   reaches : off_track (seg_len line) (journey line t s) (head t s) ≡ false
   reaches =
@@ -53,7 +50,7 @@ module _ (line : Line) (t : ℕ) (s : Story) (l : IsLineOfOneZone line) (sound :
       let b = cut_few len (longest_route line t s) (head t s) in
       let d = ap (λ (xs : List DirSeg). length xs) (ap (route_or_none (journey line t s)) c.longest_is) in
       let e = length-append (take c.newest.mark (journey line t s)) c.newest.path.steps.items in
-      let f = (path_ends line c.newest.path c.newest_is.fits).few in
+      let f = (path_parts line c.newest.path c.newest_is.fits).few in
       let g = take_most c.newest.mark (journey line t s) in
       omega (arith, a, b, d, e, f, g)
     where
@@ -63,10 +60,9 @@ module _ (line : Line) (t : ℕ) (s : Story) (l : IsLineOfOneZone line) (sound :
   -- the longest authority's path begins no farther than the true rear
   mark_before : total (seg_len line) (take c.newest.mark (journey line t s)) ≤ rear t s
   mark_before =
-      let e = end_is line t s l.valid c.step c.first (portal_on_line line c.step l.valid c.portal) c.newest c.newest_is in
       let r = rear_behind line t s l sound control on in
       let cut = c.cut in
-      omega (arith, e, r, cut)
+      omega (arith, r, cut)
 
   not_crowded : crowded (seg_len line) (journey line t s) (rear t s) ≡ false
   not_crowded =
@@ -74,12 +70,7 @@ module _ (line : Line) (t : ℕ) (s : Story) (l : IsLineOfOneZone line) (sound :
       grind (arith, nat_tests)
 
   marked : length (journey line t s) ≤ 65536
-  marked =
-      let st = c.step in
-      let e = ap (λ (xs : List DirSeg). length xs) (journey_track line t st l.valid (portal_on_line line st l.valid c.portal) s c.first) in
-      let b = cut_few len (track_from line (Some st) (head t s + 1)) (head t s) in
-      let o = track_once line st l.valid c.portal (head t s + 1) in
-      omega (arith, e, b, o)
+  marked = journey_few line t c.step s l.valid c.portal c.first
 
   pub keeps_track : OnTrack line t s
   keeps_track = record {

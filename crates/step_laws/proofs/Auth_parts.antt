@@ -1,5 +1,5 @@
 -- One entry further: what is counted, who controls, what was issued, and what the train holds.
-use Rattle.std.proofs.Common.{◌≡◌, ℕ, ◌≤◌, List, ◌∷◌, Option, Some, None, true, false, not, refl, sym, ◌∙◌, ap, subst, arith}
+use Rattle.std.proofs.Common.{◌≡◌, ℕ, ◌≤◌, ◌<◌, List, ◌∷◌, Option, Some, None, true, false, not, refl, sym, ◌∙◌, ap, subst, arith}
 use Rattle.std.proofs.lemmas.Bool.Decides.{nat_tests}
 use Rattle.std.proofs.lemmas.Bool.{eqb-true}
 use Rattle.std.specs.Prelude.{nat_eq, nat_le, is_some}
@@ -7,30 +7,33 @@ use Rattle.track_points.proofs.Some.{by_test}
 use Rattle.definitions.specs.declared.event.Event.{Event}
 use Rattle.definitions.specs.declared.event.Event.TheVariants.{Train, Entry, Enter, Ask, Step, Report, Time, Take, Deliver}
 use Rattle.definitions.specs.declared.message.Msg.{Msg}
-use Rattle.definitions.specs.Track.{Line, ranged}
+use Rattle.definitions.specs.Track.{Line, seg_len, ranged}
 use Rattle.definitions.specs.Rules.{is_line}
 use Rattle.definitions.specs.Premises.{built, enters_rightly}
-use Rattle.definitions.specs.Story.{Entry as Made, Story, ever, world_took}
-use Rattle.definitions.specs.World.{Facts, facts_or, facts_in, facts_of, is_declared, long_of, enters, entered, HeldPath, is_auth, taken_number, taken_path, taken_entry, entry_authority, last_number}
+use Rattle.definitions.specs.Story.{Entry as Made, Story, world_took}
+use Rattle.definitions.specs.World.{Facts, facts_or, facts_in, facts_of, is_declared, long_of, enters, entered, journey, Authority, HeldPath, is_auth, taken_number, taken_path, taken_entry, entry_authority, last_number}
 use Rattle.definitions.specs.Control.{grants_entry, controls, last_issued}
 use Rattle.definitions.specs.Fold.{account}
-use Rattle.definitions.specs.Longest.{counted}
+use Rattle.definitions.specs.Farther.{end_or_0}
+use Rattle.definitions.specs.Longest.{counted, longest_end}
 use Rattle.definitions.specs.Fronts.{least_rear}
 use Rattle.plain_state.specs.Plain.{zone_id}
-use Rattle.motion_laws.proofs.Motion.{place}
 use Rattle.motion_laws.proofs.Issued.{AllIn, AllIssued, all_weaker, in_all_weaker}
 use Rattle.motion_laws.proofs.Admitted.{Admitted}
 use Rattle.motion_laws.proofs.Stays.{long_stays}
-use Rattle.motion_laws.proofs.Notions.{both, told_stays, told_now, ever_same, entered_same}
+use Rattle.motion_laws.proofs.Notions.{both, told_stays, told_now, entered_same}
+use Rattle.motion_laws.proofs.Controls.{controls_same}
 use Rattle.motion_laws.proofs.Moves.{enter_once}
-use Rattle.sound_laws.proofs.Sound.{AuthorityIs, AuthIs, AuthTrue, FrontsAre, SomeIs, Controlled, EntryHeld, LimitIs, Authorized}
-use Rattle.authority_laws.proofs.Auth_places.{off_before, authority_stays, first_is_stays}
-use Rattle.authority_laws.proofs.Most_of.{last_quiet, last_grows}
-use Rattle.authority_laws.proofs.Unshrunk.{counted_unanswered}
-use Rattle.authority_laws.proofs.Auth_new.{NewAuth, never, numbered_controlled}
-use Rattle.authority_laws.proofs.Auth_next.{new_top, reads_new, new_is, control_new}
-use Rattle.authority_laws.proofs.Auth_quiet.{unshrunk_quiet, unread_quiet, AuthsStay, reads_still, quiet_stay, new_stay, auths_stay, none_true, control_quiet}
+use Rattle.sound_laws.proofs.Sound.{end_read, AuthorityIs, AuthIs, AuthTrue, FrontsAre, SomeIs, Controlled, EntryHeld, LimitIs, Authorized}
+use Rattle.sound_laws.proofs.One_route.{numbered_controls}
+use Rattle.authority_laws.proofs.Auth_places.{off_before, first_is_stays}
+use Rattle.authority_laws.proofs.Last_issued.{last_quiet, last_grows}
+use Rattle.front_laws.proofs.Unshrunk.{counted_unanswered}
+use Rattle.authority_laws.proofs.Auth_new.{NewAuth, never}
+use Rattle.authority_laws.proofs.Auth_next.{last_new, new_top, reads_new, read_new, new_is, control_new}
+use Rattle.authority_laws.proofs.Auth_quiet.{unshrunk_quiet, unread_quiet, Going, AuthsStay, reads_still, quiet_stay, new_stay, held_stays, auths_stay, none_true, control_quiet}
 use Rattle.front_laws.proofs.Front_moves.{known_same}
+use Rattle.front_laws.proofs.Route_goes_on.{read_stays}
 use Rattle.step_laws.proofs.Auth_issues.{Issues, quiet, issues}
 use Rattle.step_laws.proofs.Auth_taken.{TakenIs, AnswerIs, quiet_grants}
 use Rattle.step_laws.proofs.Auth_limit.{limit_comes, limit_goes}
@@ -80,37 +83,80 @@ uncounted_next line t s x k answer off =
 -- Who controls.
 
 pub alone_next : (line : Line) (t : ℕ) (s : Story) (x : Made) → Authorized line t s → ((y : ℕ) → grants_entry y t x ≡ true → y ≡ zone_id line) → (y : ℕ) → controls y t (x ∷ s) ≡ true → y ≡ zone_id line
-unfolding ever
 alone_next line t s x k granted y h = by_test (grants_entry y t x)
     (λ g. granted y g)
-    (λ n. k.zone_alone y (sym (ever_same (grants_entry y t) x s n) ∙ h))
+    (λ n. k.zone_alone y (sym (controls_same y t x s n) ∙ h))
 
 module _ (line : Line) (t : ℕ) (s : Story) (x : Made) (valid : is_line line ≡ true) (k : Authorized line t s) (fronts : controls (zone_id line) t s ≡ true → FrontsAre line t s)
-    (moved : is_declared t s ≡ true → place t s ≤ place t (x ∷ s)) where
+    (going : Going line t s x) where
   pub unknown_next : Issues line t s x → controls (zone_id line) t (x ∷ s) ≡ false → last_issued t (x ∷ s) ≡ 0
   unknown_next (issues n) h = absurd (let c : true ≡ false = sym n.controlled ∙ h in cc)
   unknown_next (quiet q) h =
-      let none = k.unknown (sym (ever_same (grants_entry (zone_id line) t) x s (quiet_grants (zone_id line) t x q)) ∙ h) in
+      let none = k.unknown (sym (controls_same (zone_id line) t x s (quiet_grants (zone_id line) t x q)) ∙ h) in
       last_quiet t x s q ∙ none
 
   -- what is read of its numbers
   pub unshrunk_next : Issues line t s x → (account line t (x ∷ s)).shrink ≡ 0
   unshrunk_next (quiet q) = unshrunk_quiet line t s x k q
-  unshrunk_next (issues n) = (new_top line t s x valid k moved n).unshrunk
+  unshrunk_next (issues n) = (new_top line t s x k going.moved n).unshrunk
 
   pub unread_next : Issues line t s x → controls (zone_id line) t (x ∷ s) ≡ false → (i : ℕ) → (account line t (x ∷ s)).reads i ≡ None
   unread_next (issues n) h i = absurd (let c : true ≡ false = sym n.controlled ∙ h in cc)
-  unread_next (quiet q) h i = unread_quiet line t s x k q (sym (ever_same (grants_entry (zone_id line) t) x s (quiet_grants (zone_id line) t x q)) ∙ h) i
+  unread_next (quiet q) h i = unread_quiet line t s x k q (sym (controls_same (zone_id line) t x s (quiet_grants (zone_id line) t x q)) ∙ h) i
 
   pub reads_next : Issues line t s x → (i : ℕ) → SomeIs (AuthorityIs line t (x ∷ s)) ((account line t (x ∷ s)).reads i)
-  reads_next (issues n) i = reads_new line t s x valid k moved n i
+  reads_next (issues n) i = reads_new line t s x k going.moved n i
   reads_next (quiet q) i = by_test (controls (zone_id line) t s)
-      (λ c. reads_still line t s x valid k moved c q i)
+      (λ c. reads_still line t s x valid k going c q i)
       (λ n. subst (SomeIs (AuthorityIs line t (x ∷ s))) (sym (unread_quiet line t s x k q n i)) tt)
 
+  -- a later number ends no nearer
+  read_most : ((i : ℕ) → SomeIs (AuthorityIs line t (x ∷ s)) ((account line t (x ∷ s)).reads i)) → (m : ℕ) → end_read line t (x ∷ s) m ≤ longest_end line t (x ∷ s)
+  read_most reads m = most ((account line t (x ∷ s)).reads m) (reads m)
+    where
+      most : (r : Option Authority) → SomeIs (AuthorityIs line t (x ∷ s)) r → end_or_0 (seg_len line) (journey line t (x ∷ s)) r ≤ longest_end line t (x ∷ s)
+      most None h = omega arith
+      most (Some a) h = h.within
+
+  none_read : (m : ℕ) → (account line t (x ∷ s)).reads m ≡ None → end_read line t (x ∷ s) m ≡ 0
+  none_read m h = ap (λ (r : Option Authority). end_or_0 (seg_len line) (journey line t (x ∷ s)) r) h
+
   pub stay_next : controls (zone_id line) t s ≡ true → Issues line t s x → AuthsStay line t s x
-  stay_next c (quiet q) = quiet_stay line t s x valid k moved c q
-  stay_next c (issues n) = new_stay line t s x valid k moved n
+  stay_next c (quiet q) = quiet_stay line t s x valid k going c q
+  stay_next c (issues n) = new_stay line t s x k going c n
+
+  old_rising : controls (zone_id line) t s ≡ true → Issues line t s x → last_number t s ≤ last_number t (x ∷ s) → (m n : ℕ) → last_number t (x ∷ s) ≤ m → m ≤ n → n ≤ last_issued t s → end_read line t (x ∷ s) m ≤ end_read line t (x ∷ s) n
+  old_rising c i numbers m n a b d =
+      let stay = stay_next c i in
+      let r = k.rising m n (omega (arith, a, numbers)) b d in
+      let e = read_stays line t x s k stay.first m (omega (arith, b, d)) in
+      let f = read_stays line t x s k stay.first n d in
+      omega (arith, r, e, f)
+
+  pub rising_next : Issues line t s x → last_number t s ≤ last_number t (x ∷ s) → (m n : ℕ) → last_number t (x ∷ s) ≤ m → m ≤ n → n ≤ last_issued t (x ∷ s) → end_read line t (x ∷ s) m ≤ end_read line t (x ∷ s) n
+  rising_next (quiet q) numbers m n a b d =
+      let last : last_issued t (x ∷ s) ≡ last_issued t s = last_quiet t x s q in
+      by_test (controls (zone_id line) t s)
+      (λ c. old_rising c (quiet q) numbers m n a b (omega (arith, d, last)))
+      (λ o. let z = none_read m (unread_quiet line t s x k q o m) in omega (arith, z))
+  rising_next (issues new) numbers m n a b d =
+      let last = last_new line t s x k going.moved new in
+      by_test (nat_le n (last_issued t s))
+      (λ y. by_test (controls (zone_id line) t s)
+      (λ c. old_rising c (issues new) numbers m n a b (grind (arith, nat_tests)))
+      (λ o.
+      let none = k.unknown o in
+      let le : n ≤ last_issued t s = grind (arith, nat_tests) in
+      let e : m ≡ n = omega (arith, b, le, none) in
+      let f = ap (λ (i : ℕ). end_read line t (x ∷ s) i) e in
+      omega (arith, f)))
+      (λ y.
+      let far : last_issued t s < n = grind (arith, nat_tests) in
+      let more = new.no_more in
+      let e : n ≡ new.number = omega (arith, far, more, d, last) in
+      let f = ap (λ (i : ℕ). end_read line t (x ∷ s) i) e ∙ read_new line t s x k going.moved new in
+      let g = read_most (reads_next (issues new)) m in
+      omega (arith, f, g))
 
   granted_once : controls (zone_id line) t s ≡ true → Issues line t s x → grants_entry (zone_id line) t x ≡ false
   granted_once c (quiet q) = quiet_grants (zone_id line) t x q
@@ -122,16 +168,16 @@ module _ (line : Line) (t : ℕ) (s : Story) (x : Made) (valid : is_line line �
       rear_grows line t s x (fronts c) g (known_same (zone_id line) t x s g) (stay_next c i).ends
 
   pub controlled_next : Issues line t s x → controls (zone_id line) t (x ∷ s) ≡ true → Controlled line t (x ∷ s)
-  controlled_next (issues n) h = control_new line t s x valid k moved n (rear_next (issues n))
+  controlled_next (issues n) h = control_new line t s x k going.moved n (rear_next (issues n))
   controlled_next (quiet q) h =
       let g = quiet_grants (zone_id line) t x q in
-      let c = sym (ever_same (grants_entry (zone_id line) t) x s g) ∙ h in
-      control_quiet line t s x valid k moved c q (known_same (zone_id line) t x s g) (rear_next (quiet q) c)
+      let c = sym (controls_same (zone_id line) t x s g) ∙ h in
+      control_quiet line t s x valid k going c q (known_same (zone_id line) t x s g) (rear_next (quiet q) c)
 
   -- the authorities that were issued before, and now
   auths_before : Issues line t s x → AllIssued (AuthTrue line t (x ∷ s)) s
   auths_before i = by_test (controls (zone_id line) t s)
-      (λ c. auths_stay line t s x (stay_next c i) k.auths)
+      (λ c. auths_stay line t s x k (stay_next c i) k.auths)
       (λ n. all_weaker (λ m. is_auth t m ≡ false) (AuthTrue line t (x ∷ s)) (none_true line t (x ∷ s)) s (never line t s k n))
 
   one_true : (n : NewAuth line t s x) → AuthIs line t (x ∷ s) n.number n.authority → AllIn (AuthTrue line t (x ∷ s)) x.issued
@@ -140,7 +186,7 @@ module _ (line : Line) (t : ℕ) (s : Story) (x : Made) (valid : is_line line �
 
   auths_now : Issues line t s x → AllIn (AuthTrue line t (x ∷ s)) x.issued
   auths_now (quiet q) = in_all_weaker (λ m. is_auth t m ≡ false) (AuthTrue line t (x ∷ s)) (none_true line t (x ∷ s)) x.issued q
-  auths_now (issues n) = one_true n (new_is line t s x valid k moved n)
+  auths_now (issues n) = one_true n (new_is line t s x k going.moved n)
 
   pub auths_next : Issues line t s x → AllIssued (AuthTrue line t (x ∷ s)) (x ∷ s)
   unfolding AllIssued
@@ -148,14 +194,14 @@ module _ (line : Line) (t : ℕ) (s : Story) (x : Made) (valid : is_line line �
 
   -- What the train holds.
 
-  held_stays : Issues line t s x → (h : HeldPath) → EntryHeld line t s h → EntryHeld line t (x ∷ s) h
-  held_stays i h e =
-      let stay = stay_next (numbered_controlled line t s k e.issued) i in
+  entry_stays : Issues line t s x → (h : HeldPath) → EntryHeld line t s h → EntryHeld line t (x ∷ s) h
+  entry_stays i h e =
+      let stay = stay_next (numbered_controls line t s k e.issued) i in
       let d = e.authority.declared in
       let a = e.issued in
       let b = last_grows t x s in
       record {
-        authority = authority_stays line t x s stay.same h.authority (stay.moved d) stay.ends e.authority;
+        authority = held_stays line t s x k stay h.authority e.authority;
         first = first_is_stays line t x s h.authority d e.first;
         issued = omega (arith, a, b);
       }
@@ -180,8 +226,8 @@ module _ (line : Line) (t : ℕ) (s : Story) (x : Made) (valid : is_line line �
   entry_next i taken h is = by_held (entry_authority t s) refl
     where
       by_held : (g : Option HeldPath) → entry_authority t s ≡ g → EntryHeld line t (x ∷ s) h
-      by_held None was = held_stays i h (taken_first taken was h (sym (told_now (λ (y : Made). taken_entry t (world_took y)) x s was) ∙ is))
-      by_held (Some g) was = held_stays i h (k.entry h (was ∙ sym (told_stays (λ (y : Made). taken_entry t (world_took y)) x s g was) ∙ is))
+      by_held None was = entry_stays i h (taken_first taken was h (sym (told_now (λ (y : Made). taken_entry t (world_took y)) x s was) ∙ is))
+      by_held (Some g) was = entry_stays i h (k.entry h (was ∙ sym (told_stays (λ (y : Made). taken_entry t (world_took y)) x s g was) ∙ is))
 
   module _ (a : Admitted line s x.event) where
     -- a train that comes on holds its entry authority
@@ -213,7 +259,7 @@ module _ (line : Line) (t : ℕ) (s : Story) (x : Made) (valid : is_line line �
     on_controlled : is_some (entry_authority t s) ≡ true → controls (zone_id line) t s ≡ true
     on_controlled h =
         let g = some_held (entry_authority t s) refl h in
-        numbered_controlled line t s k (k.entry g.0 g.1).issued
+        numbered_controls line t s k (k.entry g.0 g.1).issued
 
     pub limit_after : Issues line t s x → TakenIs line t s (world_took x) → entered t (x ∷ s) ≡ true → LimitIs line t (x ∷ s)
     limit_after i taken on = by_test (enters t x.event)
@@ -221,11 +267,11 @@ module _ (line : Line) (t : ℕ) (s : Story) (x : Made) (valid : is_line line �
         let some = holds x.event a.entering y in
         let c = on_controlled some in
         let g = some_held (entry_authority t s) refl some in
-        limit_comes line t s x valid k c (stay_next c i) y (enter_once t s x.event a.entering y) g.0 g.1)
+        limit_comes line t s x k c (stay_next c i) y (enter_once t s x.event a.entering y) g.0 g.1)
         (λ n.
         let was = sym (entered_same t x s n) ∙ on in
         let c = on_controlled (k.came_on was) in
-        limit_goes line t s x valid k c (stay_next c i) n was a.stopping taken)
+        limit_goes line t s x k c (stay_next c i) n was a.stopping taken)
 
     pub last_next : TakenIs line t s (world_took x) → last_number t (x ∷ s) ≤ last_issued t (x ∷ s)
     unfolding last_number

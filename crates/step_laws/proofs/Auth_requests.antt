@@ -27,7 +27,7 @@ use Rattle.motion_laws.proofs.Admitted.{Admitted}
 use Rattle.motion_laws.proofs.Stays.{facts_stay, first_stays, entered_stays}
 use Rattle.way_laws.proofs.Lines.{dir_same}
 use Rattle.sound_laws.proofs.Sound.{RequestTrue, EntryIs, Authorized}
-use Rattle.authority_laws.proofs.Most_of.{last_grows}
+use Rattle.authority_laws.proofs.Last_issued.{last_grows}
 use Rattle.step_laws.proofs.Auth_issues.{entry_cases, ask_cases, time_cases, report_none}
 
 -- what was said stays true
@@ -135,30 +135,30 @@ module _ (line : Line) (t : ℕ) (s : Story) (k : Authorized line t s) where
   unfolding AllIn
   auth_asked x number mark u path issued h = rw h (tt, tt)
 
-  zone_requests : (z : ℕ) (m : Msg) (x : Made) → AllIn (RequestTrue line t (x ∷ s)) (zone_takes line z s m).issued
+  zone_requests : (z from : ℕ) (m : Msg) (x : Made) → AllIn (RequestTrue line t (x ∷ s)) (zone_takes line z from s m).issued
   unfolding AllIn
-  zone_requests z (msg.EntryAsk u time long error speed equipped step) x =
-      let issued = (zone_takes line z s (msg.EntryAsk u time long error speed equipped step)).issued in
+  zone_requests z from (msg.EntryAsk u time long error speed equipped step) x =
+      let issued = (zone_takes line z from s (msg.EntryAsk u time long error speed equipped step)).issued in
       entry_cases (AllIn (RequestTrue line t (x ∷ s)) issued) z (knows z u.0 s) (knows_most z s) (seg_len line step.seg.0) u long step (holder_of line z s step.seg.0)
       (λ h. none_asked x issued h) (λ free fitting h. auth_asked x 1 0 u _ issued h)
-  zone_requests z (msg.Ask u time steps to) x =
+  zone_requests z from (msg.Ask u time steps to) x =
       let q = msg.Ask u time steps to in
-      let issued = (zone_takes line z s q).issued in
+      let issued = (zone_takes line z from s q).issued in
       ask_cases (AllIn (RequestTrue line t (x ∷ s)) issued) (seg_len line) z u (last_issued u.0 s) (way line z u.0 s) steps.items (limit line z u.0 s (now_with z s q) steps.items to)
       (λ h. none_asked x issued h) (λ v is far h. auth_asked x _ v.mark u _ issued h)
-  zone_requests z (msg.Time time u) x =
-      let issued = (zone_takes line z s (msg.Time time u)).issued in
+  zone_requests z from (msg.Time time u) x =
+      let issued = (zone_takes line z from s (msg.Time time u)).issued in
       time_cases (AllIn (RequestTrue line t (x ∷ s)) issued) (controls z u.0 s) (counted line u.0 s) (last_issued u.0 s) u (way line z u.0 s)
       (λ h. none_asked x issued h) (λ v is c h. auth_asked x _ v.mark u v.path issued h)
-  zone_requests z (msg.Report u time mark offset integrity) x = none_asked x _ (report_none line z s u (msg.Report u time mark offset integrity))
-  zone_requests z (msg.Answer u time number taken) x = tt
-  zone_requests z (msg.Auth u number mark path) x = tt
+  zone_requests z from (msg.Report u time mark offset integrity) x = none_asked x _ (report_none line z s u (msg.Report u time mark offset integrity))
+  zone_requests z from (msg.Answer u time number taken) x = tt
+  zone_requests z from (msg.Auth u number mark path) x = tt
 
   take_requests : (e : Event) (to from number : ℕ) (m : Option Msg) → message from to number s ≡ m → (x : Made) → AllIn (RequestTrue line t (x ∷ s)) (taking line s e to from m).issued
   unfolding AllIn
   take_requests e to from number None is x = tt
   take_requests e zero from number (Some m) is x = world_requests from m (number_most (auth_number t) from 0 s (number - 1) m is) x
-  take_requests e (suc z) from number (Some m) is x = zone_requests (suc z) m x
+  take_requests e (suc z) from number (Some m) is x = zone_requests (suc z) from m x
 
   pub effect_requests : (e : Event) → Admitted line s e → AllIn (RequestTrue line t (effects line s e ∷ s)) (effects line s e).issued
   unfolding AllIn

@@ -19,7 +19,7 @@ use Rattle.motion_laws.proofs.Issued.{in_false_all, issued_all}
 use Rattle.motion_laws.proofs.Notions.{both, number_most}
 use Rattle.motion_laws.proofs.Admitted.{Admitted}
 use Rattle.sound_laws.proofs.Sound.{RequestTrue, AuthIs, AuthTrue, Authorized}
-use Rattle.authority_laws.proofs.Unshrunk.{answers}
+use Rattle.front_laws.proofs.Unshrunk.{answers}
 use Rattle.step_laws.proofs.Auth_issues.{NoAuth}
 use Rattle.step_laws.proofs.Auth_takes.{taker_is, world_takes_none}
 

@@ -12,7 +12,7 @@ use Rattle.definitions.specs.declared.message.Msg.{Msg}
 use Rattle.definitions.specs.declared.message.Msg.TheVariants as msg
 use Rattle.definitions.specs.Track.{Line, seg_len, zone_of, is_actor}
 use Rattle.definitions.specs.Story.{Entry as Made, Story}
-use Rattle.definitions.specs.World.{Facts, clock, facts_of, entry_authority, entered, last_number}
+use Rattle.definitions.specs.World.{Facts, clock, facts_of, goes_on, entry_authority, entered, last_number}
 use Rattle.definitions.specs.Control.{controls, knows, knows_most, now_with, last_issued}
 use Rattle.definitions.specs.Longest.{counted}
 use Rattle.definitions.specs.Authority.{way, holder_of}
@@ -28,12 +28,12 @@ use Rattle.sound_laws.proofs.One_zone.{zone_only}
 use Rattle.step_laws.proofs.Auth_issues.{Issues, quiet, NoAuth, no_issue, other_issue, entry_cases, ask_cases, time_cases, report_none, entry_issues, ask_issues, time_issues}
 
 -- A zone's take, for any train.
-module _ (line : Line) (s : Story) (one : IsLineOfOneZone line) (sound : (t : ℕ) → Sound line t s) (e : Event) (t from : ℕ) where
+module _ (line : Line) (s : Story) (one : IsLineOfOneZone line) (sound : (t : ℕ) → Sound line t s) (e : Event) (still : (t : ℕ) → goes_on t e ≡ false) (t from : ℕ) where
   abbrev z : ℕ
   z = zone_id line
 
   abbrev step : Msg → Made
-  step q = made e (zone_id line) (Some (from, q)) (zone_step line (zone_id line) s q)
+  step q = made e (zone_id line) (Some (from, q)) (zone_step line (zone_id line) from s q)
 
   -- what is issued of the train that the message names, is
   its_own : (u : TrainId) (x : Made) → Issues line u.0 s x → (nat_eq u.0 t ≡ false → NoAuth t x.issued) → Issues line t s x
@@ -41,23 +41,23 @@ module _ (line : Line) (s : Story) (one : IsLineOfOneZone line) (sound : (t : �
       (λ y. subst (λ (n : ℕ). Issues line n s x) (eqb-true u.0 t y) own)
       (λ n. quiet (other n))
 
-  pub zone_issues : (q : Msg) → ((u : ℕ) → RequestTrue line u s q) → Issues line t s (made e (zone_id line) (Some (from, q)) (zone_step line (zone_id line) s q))
+  pub zone_issues : (q : Msg) → ((u : ℕ) → RequestTrue line u s q) → Issues line t s (made e (zone_id line) (Some (from, q)) (zone_step line (zone_id line) from s q))
   zone_issues (msg.EntryAsk u time long error speed equipped st) asked =
       let x = step (msg.EntryAsk u time long error speed equipped st) in
-      its_own u x (entry_issues line s one e from u (sound u.0).motion (sound u.0).authorized (sound u.0).fronts time long error speed equipped st (asked u.0))
+      its_own u x (entry_issues line s one e still from u (sound u.0).motion (sound u.0).authorized (sound u.0).fronts time long error speed equipped st (asked u.0))
       (λ other. entry_cases (NoAuth t x.issued) z (knows z u.0 s) (knows_most z s) (seg_len line st.seg.0) u long st (holder_of line z s st.seg.0)
       (λ h. no_issue t x.issued h)
       (λ free fitting h. other_issue t 1 0 u _ x.issued other h))
   zone_issues (msg.Ask u time steps to) asked =
       let q = msg.Ask u time steps to in
       let x = step q in
-      its_own u x (ask_issues line s one e from u (sound u.0).motion (sound u.0).authorized (sound u.0).fronts time steps to)
+      its_own u x (ask_issues line s one e still from u (sound u.0).motion (sound u.0).authorized (sound u.0).fronts time steps to)
       (λ other. ask_cases (NoAuth t x.issued) (seg_len line) z u (last_issued u.0 s) (way line z u.0 s) steps.items (limit line z u.0 s (now_with z s q) steps.items to)
       (λ h. no_issue t x.issued h)
       (λ v is far h. other_issue t _ v.mark u _ x.issued other h))
   zone_issues (msg.Time time u) asked =
       let x = step (msg.Time time u) in
-      its_own u x (time_issues line s one e from u (sound u.0).motion (sound u.0).authorized (sound u.0).fronts time)
+      its_own u x (time_issues line s one e still from u (sound u.0).motion (sound u.0).authorized (sound u.0).fronts time)
       (λ other. time_cases (NoAuth t x.issued) (controls z u.0 s) (counted line u.0 s) (last_issued u.0 s) u (way line z u.0 s)
       (λ h. no_issue t x.issued h)
       (λ v is c h. other_issue t _ v.mark u v.path x.issued other h))
@@ -104,12 +104,12 @@ taker_is line z one h =
     zone_only line (suc z) one.one (rw some at h)
 
 module _ (line : Line) (s : Story) (one : IsLineOfOneZone line) (sound : (t : ℕ) → Sound line t s) (t : ℕ) where
-  take_issues : (e : Event) (to from number : ℕ) (m : Option Msg) → is_actor line to ≡ true → message from to number s ≡ m → Issues line t s (taking line s e to from m)
-  take_issues e to from number None acts is = quiet (no_issue t [] refl)
-  take_issues e zero from number (Some m) acts is = quiet (world_none t s from m)
-  take_issues e (suc z) from number (Some m) acts is =
-      subst (λ (y : ℕ). Issues line t s (made e y (Some (from, m)) (zone_step line y s m))) (sym (taker_is line z one acts))
-      (zone_issues line s one sound e t from m (λ u. issued_all (RequestTrue line u s) from (suc z) s (number - 1) m (sound u).authorized.requests is))
+  take_issues : (e : Event) → ((u : ℕ) → goes_on u e ≡ false) → (to from number : ℕ) (m : Option Msg) → is_actor line to ≡ true → message from to number s ≡ m → Issues line t s (taking line s e to from m)
+  take_issues e still to from number None acts is = quiet (no_issue t [] refl)
+  take_issues e still zero from number (Some m) acts is = quiet (world_none t s from m)
+  take_issues e still (suc z) from number (Some m) acts is =
+      subst (λ (y : ℕ). Issues line t s (made e y (Some (from, m)) (zone_step line y from s m))) (sym (taker_is line z one acts))
+      (zone_issues line s one sound e still t from m (λ u. issued_all (RequestTrue line u s) from (suc z) s (number - 1) m (sound u).authorized.requests is))
 
   pub effect_issues : (e : Event) → Admitted line s e → Issues line t s (effects line s e)
   unfolding AllIn
@@ -122,5 +122,5 @@ module _ (line : Line) (s : Story) (one : IsLineOfOneZone line) (sound : (t : �
   effect_issues (Time zone u) a = quiet (refl, tt)
   effect_issues (Take to from number) a =
       let acts = (both (is_actor line to) (is_actor line from) (both (not (nat_eq to from)) (is_actor line to && is_actor line from) a.form).1).0 in
-      take_issues (Take to from number) to from number (message from to number s) acts refl
+      take_issues (Take to from number) (λ u. refl) to from number (message from to number s) acts refl
   effect_issues (Deliver to) a = quiet tt

@@ -3,29 +3,30 @@ use Rattle.std.proofs.Common.{◌≡◌, ℕ, ◌≤◌, [], ◌∷◌, true, re
 use Rattle.definitions.specs.declared.event.Event.{Event}
 use Rattle.definitions.specs.Track.{Line}
 use Rattle.definitions.specs.Story.{Entry as Made, Story, ever, first_told, greatest_issued}
-use Rattle.definitions.specs.World.{is_declared, last_number}
+use Rattle.definitions.specs.World.{last_number}
 use Rattle.definitions.specs.Control.{controls, last_issued}
 use Rattle.definitions.specs.Fold.{account}
 use Rattle.definitions.specs.Longest.{counted, longest_end}
-use Rattle.definitions.specs.Fronts.{least_rear}
 use Rattle.definitions.specs.Steps.{effects}
 use Rattle.definitions.specs.Safe.{IsLineOfOneZone}
 use Rattle.plain_state.specs.Plain.{zone_id}
-use Rattle.motion_laws.proofs.Motion.{place, Timed, place_grows}
+use Rattle.motion_laws.proofs.Motion.{Timed}
 use Rattle.motion_laws.proofs.Issued.{AllIssued}
 use Rattle.motion_laws.proofs.Admitted.{Admitted}
-use Rattle.motion_laws.proofs.Moves.{effect_event}
+use Rattle.motion_laws.proofs.Moves.{enter_once, effect_event}
 use Rattle.sound_laws.proofs.Sound.{RequestTrue, Authorized, Sound}
-use Rattle.authority_laws.proofs.Most_of.{last_grows}
+use Rattle.authority_laws.proofs.Last_issued.{last_grows}
 use Rattle.authority_laws.proofs.Auth_new.{counted_next}
+use Rattle.authority_laws.proofs.Auth_quiet.{Going}
+use Rattle.step_laws.proofs.Auth_limit.{going, number_grows}
 use Rattle.step_laws.proofs.Auth_requests.{requests_stay, effect_requests}
 use Rattle.step_laws.proofs.Auth_issues.{Issues}
 use Rattle.step_laws.proofs.Auth_takes.{effect_issues}
 use Rattle.step_laws.proofs.Auth_taken.{TookIs, effect_took_is}
-use Rattle.step_laws.proofs.Auth_parts.{long_next, uncounted_next, alone_next, unknown_next, unshrunk_next, unread_next, reads_next, stay_next, rear_next, controlled_next, auths_next, entry_next, came_next, limit_after, last_next}
+use Rattle.step_laws.proofs.Auth_parts.{long_next, uncounted_next, alone_next, unknown_next, unshrunk_next, unread_next, reads_next, rising_next, stay_next, controlled_next, auths_next, entry_next, came_next, limit_after, last_next}
 
 pub authorized_start : (line : Line) (t : ℕ) → Authorized line t []
-unfolding first_told ever greatest_issued account last_number AllIssued
+unfolding first_told ever controls greatest_issued account last_number AllIssued
 authorized_start line t = record {
   long_some = λ h. absurd cc;
   counted_most = omega arith;
@@ -33,6 +34,7 @@ authorized_start line t = record {
   uncounted = λ h. refl;
   unshrunk = refl;
   reads = λ n. tt;
+  rising = λ m n a b c. omega arith;
   zone_alone = λ y h. absurd cc;
   unknown = λ h. refl;
   unread = λ h n. refl;
@@ -60,8 +62,11 @@ module _ (line : Line) (s : Story) (e : Event) (one : IsLineOfOneZone line) (a :
   took : TookIs line t s (effects line s e)
   took = effect_took_is line s one t k e a
 
-  moved : is_declared t s ≡ true → place t s ≤ place t (effects line s e ∷ s)
-  moved d = place_grows line t s e a (sound t).motion d
+  goes : Going line t s (effects line s e)
+  goes = going line t s e a (sound t).motion k
+
+  numbers : last_number t s ≤ last_number t (effects line s e ∷ s)
+  numbers = number_grows t x s (λ y. enter_once t s x.event acts.entering y)
 
   requests_next : AllIssued (RequestTrue line t (effects line s e ∷ s)) (effects line s e ∷ s)
   unfolding AllIssued
@@ -71,29 +76,27 @@ module _ (line : Line) (s : Story) (e : Event) (one : IsLineOfOneZone line) (a :
   authorized_next = record {
     long_some = long_next line t s x acts.form k.long_some;
     counted_most = counted_grows;
-    unshrunk = unshrunk_next line t s x one.valid k (sound t).fronts moved issue;
-    reads = reads_next line t s x one.valid k (sound t).fronts moved issue;
-    unread = unread_next line t s x one.valid k (sound t).fronts moved issue;
-    last_most = last_next line t s x one.valid k (sound t).fronts moved acts took.world;
+    unshrunk = unshrunk_next line t s x one.valid k (sound t).fronts goes issue;
+    reads = reads_next line t s x one.valid k (sound t).fronts goes issue;
+    rising = rising_next line t s x one.valid k (sound t).fronts goes issue numbers;
+    unread = unread_next line t s x one.valid k (sound t).fronts goes issue;
+    last_most = last_next line t s x one.valid k (sound t).fronts goes acts took.world;
     uncounted = uncounted_next line t s x k took.answer;
     zone_alone = alone_next line t s x k took.zone;
-    unknown = unknown_next line t s x one.valid k (sound t).fronts moved issue;
-    controlled = controlled_next line t s x one.valid k (sound t).fronts moved issue;
-    auths = auths_next line t s x one.valid k (sound t).fronts moved issue;
+    unknown = unknown_next line t s x one.valid k (sound t).fronts goes issue;
+    controlled = controlled_next line t s x one.valid k (sound t).fronts goes issue;
+    auths = auths_next line t s x one.valid k (sound t).fronts goes issue;
     requests = requests_next;
-    entry = entry_next line t s x one.valid k (sound t).fronts moved issue took.world;
-    came_on = came_next line t s x one.valid k (sound t).fronts moved acts;
-    limit = limit_after line t s x one.valid k (sound t).fronts moved acts issue took.world;
+    entry = entry_next line t s x one.valid k (sound t).fronts goes issue took.world;
+    came_on = came_next line t s x one.valid k (sound t).fronts goes acts;
+    limit = limit_after line t s x one.valid k (sound t).fronts goes acts issue took.world;
   }
     where
       counted_grows : counted line t (effects line s e ∷ s) ≤ last_issued t (effects line s e ∷ s)
       counted_grows = let c = counted_next line t s k x in let g = last_grows t x s in omega (arith, c, g)
 
   pub ends_next : controls (zone_id line) t s ≡ true → longest_end line t s ≤ longest_end line t (effects line s e ∷ s)
-  ends_next c = (stay_next line t s x one.valid k (sound t).fronts moved c issue).ends
-
-  pub rears_next : controls (zone_id line) t s ≡ true → least_rear line (zone_id line) t s ≤ least_rear line (zone_id line) t (effects line s e ∷ s)
-  rears_next c = rear_next line t s x one.valid k (sound t).fronts moved issue c
+  ends_next c = (stay_next line t s x one.valid k (sound t).fronts goes c issue).ends
 
 pub authorized_step : (line : Line) (s : Story) (e : Event) → IsLineOfOneZone line → Admitted line s e → Timed s → ((t : ℕ) → Sound line t s) → (t : ℕ) → Authorized line t (effects line s e ∷ s)
 authorized_step line s e one a timed sound t = authorized_next line s e one a timed sound t
@@ -102,8 +105,3 @@ authorized_step line s e one a timed sound t = authorized_next line s e one a ti
 pub ends_grow : (line : Line) (s : Story) (e : Event) → IsLineOfOneZone line → Admitted line s e → Timed s → ((t : ℕ) → Sound line t s) → (t : ℕ)
     → controls (zone_id line) t s ≡ true → longest_end line t s ≤ longest_end line t (effects line s e ∷ s)
 ends_grow line s e one a timed sound t c = ends_next line s e one a timed sound t c
-
--- and neither does its least rear
-pub rears_grow : (line : Line) (s : Story) (e : Event) → IsLineOfOneZone line → Admitted line s e → Timed s → ((t : ℕ) → Sound line t s) → (t : ℕ)
-    → controls (zone_id line) t s ≡ true → least_rear line (zone_id line) t s ≤ least_rear line (zone_id line) t (effects line s e ∷ s)
-rears_grow line s e one a timed sound t c = rears_next line s e one a timed sound t c

@@ -8,12 +8,13 @@ use Rattle.definitions.specs.Steps.{effects, story_of}
 use Rattle.std.specs.Prelude.{nat_eq}
 use Rattle.definitions.specs.Fold.{account}
 use Rattle.plain_state.specs.Plain.{zone_id}
-use Rattle.authority_laws.proofs.Unshrunk.{none_taken}
+use Rattle.front_laws.proofs.Unshrunk.{none_taken}
 use Rattle.front_laws.proofs.Front_step.{takes_some}
 use Rattle.motion_laws.proofs.Admitted.{Admitted, admitted}
-use Rattle.motion_laws.proofs.Motion.{Timed, motion_start, motion_step}
+use Rattle.motion_laws.proofs.Motion.{Timed, motion_start, motion_step, heads_grow}
 use Rattle.motion_laws.proofs.Times.{timed_step, timed_story}
 use Rattle.sound_laws.proofs.Sound.{Sound}
+use Rattle.sound_laws.proofs.Journeys_stay.{journeys_start, journeys_stay}
 use Rattle.step_laws.proofs.Authorized_step.{authorized_start, authorized_step, ends_grow}
 use Rattle.front_laws.proofs.Reports.{reports_start, reports_step}
 use Rattle.front_laws.proofs.Front_step.{fronts_start, fronts_step}
@@ -21,6 +22,7 @@ use Rattle.front_laws.proofs.Front_step.{fronts_start, fronts_step}
 pub sound_start : (line : Line) (t : ℕ) → Sound line t []
 sound_start line t = record {
   motion = motion_start t;
+  journeys = journeys_start line t;
   authorized = authorized_start line t;
   reports = reports_start line t;
   fronts = fronts_start line t;
@@ -32,6 +34,7 @@ sound_step line s e l a timed k t =
     let authorized = authorized_step line s e l a timed k t in
     record {
       motion = motion;
+      journeys = journeys_stay line t (effects line s e) s (k t).motion (k t).authorized (heads_grow line t s e a (k t).motion) (k t).journeys;
       authorized = authorized;
       reports = reports_step line s e l a timed k t;
       fronts = fronts_step line s e l a timed (timed_step line s e a timed) k t motion authorized

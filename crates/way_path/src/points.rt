@@ -2,7 +2,7 @@
 ghost use Rattle.std.specs.Prelude.{◌≡◌, ◌<◌, ◌≤◌, ◌+◌, [], ◌&&◌, ◌||◌, length, ℕ};
 ghost use Rattle.track_points.specs.Points.{Point, Cell, has_between};
 ghost use Rattle.track_points.specs.Sets.{in_range, has_cell, set_has};
-ghost use Rattle.definitions.specs.Track.{seg_len};
+ghost use Rattle.definitions.specs.Track.{seg_len, layout};
 ghost use Rattle.way_path.specs.Ways.{step_has, segment_of, point_of};
 
 use crate::on_steps::{length_of, zone_of};
@@ -85,7 +85,7 @@ fn add_points(
     set: &mut PointSet,
 )
     requires room { length set.old.ranges + length steps.now ≤ 24 }
-    ensures cells { (s mm : ℕ) → has_cell set.new s mm ≡ (has_cell set.old s mm || (segment_of line.now zone s && has_between (seg_len line.now) steps.now lo hi (Cell s mm))) }
+    ensures cells { (s mm : ℕ) → has_cell set.new s mm ≡ (has_cell set.old s mm || (segment_of line.now zone s && has_between (layout line.now) steps.now lo hi (Cell s mm))) }
     ensures tokens { set.new.tokens ≡ set.old.tokens }
 {
     if let [step, rest @ ..] = steps {
@@ -105,7 +105,7 @@ fn add_points(
 /// The points of some steps between two places, those of a zone alone where one is named.
 pub fn points_of(line: &Line, zone: Option<ZoneId>, steps: &[DirSeg], lo: u32, hi: u32) -> PointSet
     requires { length steps.now ≤ 24 }
-    ensures { (point : Point) → set_has result point ≡ (point_of line.now zone point && has_between (seg_len line.now) steps.now lo hi point) }
+    ensures { (point : Point) → set_has result point ≡ (point_of line.now zone point && has_between (layout line.now) steps.now lo hi point) }
 {
     let mut set = PointSet::empty();
     add_points(line, zone, steps, lo, hi, &mut set);

@@ -2,7 +2,7 @@
 ghost use Rattle.std.specs.Prelude.{◌≡◌, ◌<◌, ◌≤◌, ◌+◌, ◌^◌, length, ◌&&◌, nat_eq, IfOk, OnOk};
 ghost use Rattle.track_points.specs.Points.{Point, total, has_between};
 ghost use Rattle.track_points.specs.Sets.{set_has};
-ghost use Rattle.definitions.specs.Track.{owner, seg_len};
+ghost use Rattle.definitions.specs.Track.{owner, seg_len, layout};
 ghost use Rattle.definitions.specs.Ways.{IsFront, IsRear};
 ghost use Rattle.way_path.specs.Ways.{IsWay, OnLine, EndsWithPath, Makes, place_of, Extends, ended_at, Dropped};
 
@@ -145,17 +145,17 @@ impl Way {
         requires from { self.now.path.from ≤ lo }
         requires order { lo ≤ hi }
         requires end { hi ≤ self.now.end }
-        ensures { (point : Point) → set_has result point ≡ has_between (seg_len line.now) self.now.path.steps.items lo hi point }
+        ensures { (point : Point) → set_has result point ≡ has_between (layout line.now) self.now.path.steps.items lo hi point }
     {
         points_of(line, None, self.path.steps.as_slice(), lo, hi)
     }
 
-    /// The points between two places that are of a zone's own track.
+    /// The points between two places that a zone owns.
     pub fn points_in(&self, line: &Line, zone: ZoneId, lo: u32, hi: u32) -> PointSet
         requires from { self.now.path.from ≤ lo }
         requires order { lo ≤ hi }
         requires end { hi ≤ self.now.end }
-        ensures { (point : Point) → set_has result point ≡ (nat_eq (owner line.now point) zone.0 && has_between (seg_len line.now) self.now.path.steps.items lo hi point) }
+        ensures { (point : Point) → set_has result point ≡ (nat_eq (owner line.now point) zone.0 && has_between (layout line.now) self.now.path.steps.items lo hi point) }
     {
         points_of(line, Some(zone), self.path.steps.as_slice(), lo, hi)
     }

@@ -18,7 +18,7 @@ use crate::trains::{
 use arrayvec::ArrayVec;
 use definitions::event::Event;
 use definitions::message::Msg;
-use definitions::outcome::{Outcome, Verdict};
+use definitions::outcome::{AnswerWord, Outcome};
 use line_map::Line;
 use msg_codec::Outs;
 use plain_state::WorldTrain;
@@ -48,7 +48,7 @@ fn answer(time: u64, train: TrainId, zone: u8, number: u32, outs: &mut Outs)
             taken: true,
         },
     );
-    outs.tell(Outcome::Answer(train, number, Verdict::Taken));
+    outs.tell(Outcome::Answer(train, number, AnswerWord::Taken));
 }
 
 /// Sends the request for entry, to the portal's zone.

@@ -71,7 +71,7 @@ held_inside true false limit e t f h = grind (arith, nat_tests)
 held_inside false true limit e t f h = grind (arith, nat_tests)
 held_inside false false limit e t f h = grind (arith, nat_tests)
 
-held_last : (x y v z : Bool) → (x || (y || (v || z))) ≡ ((x || (y || z)) || v)
+held_last : (x y v z : Bool) → (x || (y || (v || (z || false)))) ≡ ((x || (y || z)) || v)
 held_last true y v z = refl
 held_last false true v z = refl
 held_last false false true true = refl
@@ -81,7 +81,7 @@ held_last false false false false = refl
 
 -- whether any obstacle stands at a place
 abbrev pub stops_or_held : Bool → Bool → ℕ → ℕ → ℕ → (ℕ → Bool) → ℕ → Bool
-stops_or_held a b e t f held p = nat_eq p e || (a && nat_eq p t || (held p || b && nat_eq p f))
+stops_or_held a b e t f held p = nat_eq p e || (a && nat_eq p t || (held p || (b && nat_eq p f || false)))
 
 pub stop_is : (a b : Bool) (held : ℕ → Bool) (limit e t f h : ℕ) → limit ≤ e → IsNearest held t limit h → ((p : ℕ) → t ≤ p → held p ≡ false)
     → IsFirst (λ d. stops_or_held a b e t f held (limit + d)) (e - limit) ((first_stop a b limit e t f h).place - limit)
@@ -92,13 +92,13 @@ stop_is a b held limit e t f h le j none =
     rw (← held_inside a b limit e t f h) x
 
 -- the obstacle that stands at a place, of the least code; `v` is whether the place is held
-abbrev pub standing : Bool → Bool → ℕ → ℕ → Bool → ℕ → Obstacle
-standing a b e t v p = if nat_eq p e then AskEnds else if a && nat_eq p t then TrackEnds else if v then Held else PathFull
+abbrev pub standing : Bool → Bool → ℕ → ℕ → ℕ → Bool → ℕ → Obstacle
+standing a b e t f v p = if nat_eq p e then AskEnds else if a && nat_eq p t then TrackEnds else if v then Held else if b && nat_eq p f then PathFull else AskEnds
 
 -- where a place before the first held one, or behind all steps, is not held, and that one is
 least_at : (a b v : Bool) (limit e t f h : ℕ) → limit ≤ e → (h < t → limit ≤ h)
     → (h < t → (first_stop a b limit e t f h).place ≡ h → v ≡ true) → ((first_stop a b limit e t f h).place < h → v ≡ false) → (t ≤ (first_stop a b limit e t f h).place → v ≡ false)
-    → standing a b e t v (first_stop a b limit e t f h).place ≡ (first_stop a b limit e t f h).obstacle
+    → standing a b e t f v (first_stop a b limit e t f h).place ≡ (first_stop a b limit e t f h).obstacle
 least_at true true true limit e t f h le u x y z = grind (arith, nat_tests, u, x, y, z)
 least_at true true false limit e t f h le u x y z = grind (arith, nat_tests, u, x, y, z)
 least_at true false true limit e t f h le u x y z = grind (arith, nat_tests, u, x, y, z)
@@ -127,7 +127,7 @@ stop_from a b limit e t f h i =
 
 -- the obstacle that stands there is the one of the least code
 pub least_is : (a b : Bool) (held : ℕ → Bool) (limit e t f h : ℕ) → limit ≤ e → IsNearest held t limit h → ((p : ℕ) → t ≤ p → held p ≡ false)
-    → standing a b e t (held (first_stop a b limit e t f h).place) (first_stop a b limit e t f h).place ≡ (first_stop a b limit e t f h).obstacle
+    → standing a b e t f (held (first_stop a b limit e t f h).place) (first_stop a b limit e t f h).place ≡ (first_stop a b limit e t f h).obstacle
 least_is a b held limit e t f h le j none =
     least_at a b (held (first_stop a b limit e t f h).place) limit e t f h le j.after
     (λ lt q. rw q (j.there lt))

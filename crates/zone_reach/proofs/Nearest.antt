@@ -4,16 +4,16 @@ use Rattle.std.proofs.lemmas.Bool.Decides.{nat_tests}
 use Rattle.track_points.specs.declared.ids.Dir.{Dir}
 use Rattle.track_points.specs.declared.ids.Dir.TheVariants.{Up, Down}
 use Rattle.track_points.specs.declared.ids.DirSeg.{DirSeg}
-use Rattle.track_points.specs.Points.{Lengths, Point, Cell, mm_at, total, cell_at, some_below, has_between, path_has, end_place}
+use Rattle.track_points.specs.Points.{Lengths, Layout, Point, Cell, mm_at, total, some_below, has_between, path_has, end_place}
 use Rattle.track_points.proofs.Some.{by_test, same_bool, some_at, some_found}
-use Rattle.track_points.proofs.Places.{cell_here, cell_beyond}
-use Rattle.definitions.specs.Track.{Line, seg_len, zone_of}
-use Rattle.definitions.specs.Limit.{passes}
+use Rattle.definitions.specs.Track.{Line, seg_len, layout, zone_of}
+use Rattle.definitions.specs.Limit.{on_step, passes}
 use Rattle.plain_state.specs.ZoneTrain.{ZoneTrain}
 use Rattle.plain_state.specs.Zone.{held_else_plain, barring_plain, way_on}
 use Rattle.zone_reach.specs.Held.{cells_on, first_in, near_step, near_steps, near_way, near_ways, near_on, first_held}
 use Rattle.way_path.specs.Ways.{step_has}
 use Rattle.way_path.proofs.BySteps.{points_none, cells_first}
+use Rattle.way_laws.proofs.Throats.{cell_alone}
 
 -- the least number from `from` on and below n that passes, or n
 pub record IsNearest (test : ℕ → Bool) (n from q : ℕ) : Type 0 where
@@ -73,46 +73,59 @@ step_is len w lo hi st from =
     rw (e, t) (covered (len st.seg.0) w.dir st.dir lo hi from))
     (λ n. rw n (nearest_none (λ k. false) (len st.seg.0) from (λ k h. refl)))
 
-steps_are : (len : Lengths) (steps : List DirSeg) (lo hi : ℕ) (st : DirSeg) (from : ℕ)
-    → IsNearest (λ k. has_between len steps lo hi (cell_on len st k)) (len st.seg.0) from (near_steps len steps lo hi st from)
+steps_are : (layout : Layout) (steps : List DirSeg) (lo hi : ℕ) (st : DirSeg) (from : ℕ)
+    → IsNearest (λ k. has_between layout steps lo hi (cell_on layout.len st k)) (layout.len st.seg.0) from (near_steps layout.len steps lo hi st from)
 unfolding near_steps
-steps_are len [] lo hi st from = nearest_none _ (len st.seg.0) from (λ k h. points_none (cell_on len st k) len lo hi)
-steps_are len (w ∷ steps) lo hi st from =
-    nearest_same (λ k. step_has (len w.seg.0) w lo hi st.seg.0 (mm_at (len st.seg.0) st.dir k) || has_between len steps (lo - len w.seg.0) (hi - len w.seg.0) (cell_on len st k)) _ _ _ _
-    (λ k h. cells_first len w steps lo hi st.seg.0 (mm_at (len st.seg.0) st.dir k))
-    (nearest_two _ _ _ _ _ _ (step_is len w lo hi st from) (steps_are len steps (lo - len w.seg.0) (hi - len w.seg.0) st from))
+steps_are layout [] lo hi st from = nearest_none _ (layout.len st.seg.0) from (λ k h. points_none (cell_on layout.len st k) layout lo hi)
+steps_are layout (w ∷ steps) lo hi st from =
+    let len = layout.len in
+    nearest_same (λ k. step_has (len w.seg.0) w lo hi st.seg.0 (mm_at (len st.seg.0) st.dir k) || has_between layout steps (lo - len w.seg.0) (hi - len w.seg.0) (cell_on len st k)) _ _ _ _
+    (λ k h. cells_first layout w steps lo hi st.seg.0 (mm_at (len st.seg.0) st.dir k))
+    (nearest_two _ _ _ _ _ _ (step_is len w lo hi st from) (steps_are layout steps (lo - len w.seg.0) (hi - len w.seg.0) st from))
 
-pub way_is : (len : Lengths) (x : ZoneTrain) (st : DirSeg) (from : ℕ)
-    → IsNearest (λ k. path_has len x.way.path (cell_on len st k)) (len st.seg.0) from (near_way len x st from)
-way_is len x st from = steps_are len x.way.path.steps.items x.way.path.from (end_place len x.way.path) st from
+pub way_is : (layout : Layout) (x : ZoneTrain) (st : DirSeg) (from : ℕ)
+    → IsNearest (λ k. path_has layout x.way.path (cell_on layout.len st k)) (layout.len st.seg.0) from (near_way layout.len x st from)
+way_is layout x st from = steps_are layout x.way.path.steps.items x.way.path.from (end_place layout.len x.way.path) st from
 
-ways_are : (len : Lengths) (t : ℕ) (ways : List ZoneTrain) (st : DirSeg) (from : ℕ)
-    → IsNearest (λ k. held_else_plain len ways t (cell_on len st k)) (len st.seg.0) from (near_ways len t ways st from)
+ways_are : (layout : Layout) (t : ℕ) (ways : List ZoneTrain) (st : DirSeg) (from : ℕ)
+    → IsNearest (λ k. held_else_plain layout ways t (cell_on layout.len st k)) (layout.len st.seg.0) from (near_ways layout.len t ways st from)
 unfolding near_ways
-ways_are len t [] st from = nearest_none _ (len st.seg.0) from (λ k h. refl)
-ways_are len t (x ∷ ways) st from =
+ways_are layout t [] st from = nearest_none _ (layout.len st.seg.0) from (λ k h. refl)
+ways_are layout t (x ∷ ways) st from =
     by_test (nat_eq x.id.0 t)
-    (λ y. rw y (ways_are len t ways st from))
-    (λ n. rw n (nearest_two _ _ _ _ _ _ (way_is len x st from) (ways_are len t ways st from)))
+    (λ y. rw y (ways_are layout t ways st from))
+    (λ n. rw n (nearest_two _ _ _ _ _ _ (way_is layout x st from) (ways_are layout t ways st from)))
 
 pub on_is : (line : Line) (z : ℕ) (ways : List ZoneTrain) (t : ℕ) (st : DirSeg) (from : ℕ)
     → IsNearest (λ k. barring_plain line z ways t (cell_on (seg_len line) st k)) (seg_len line st.seg.0) from (near_on line z ways t st from)
 on_is line z ways t st from =
     by_test (nat_eq (zone_of line st.seg.0) z)
-    (λ y. rw y (ways_are (seg_len line) t ways st from))
+    (λ y. rw y (ways_are (layout line) t ways st from))
     (λ n. rw n (nearest_none (λ k. false) (seg_len line st.seg.0) from (λ k h. refl)))
 
 -- the place is held
 abbrev pub held_at : Line → ℕ → List ZoneTrain → ℕ → List DirSeg → ℕ → Bool
-held_at line z ways t asked p = passes (barring_plain line z ways t) (cell_at (seg_len line) asked p)
+held_at line z ways t asked p = passes (layout line) (barring_plain line z ways t) (on_step (seg_len line) asked p)
 
 held_here : (line : Line) (z : ℕ) (ways : List ZoneTrain) (t : ℕ) (st : DirSeg) (asked : List DirSeg) (p : ℕ) → p < seg_len line st.seg.0
     → held_at line z ways t (st ∷ asked) p ≡ barring_plain line z ways t (cell_on (seg_len line) st p)
-held_here line z ways t st asked p h = rw (cell_here (seg_len line) st asked p h) refl
+unfolding on_step
+held_here line z ways t st asked p h =
+    let y : nat_lt p (seg_len line st.seg.0) ≡ true = grind (arith, nat_tests) in
+    rw y (cell_alone line (barring_plain line z ways t) st.seg.0 (mm_at (seg_len line st.seg.0) st.dir p))
 
 held_beyond : (line : Line) (z : ℕ) (ways : List ZoneTrain) (t : ℕ) (st : DirSeg) (asked : List DirSeg) (p : ℕ) → seg_len line st.seg.0 ≤ p
     → held_at line z ways t (st ∷ asked) p ≡ held_at line z ways t asked (p - seg_len line st.seg.0)
-held_beyond line z ways t st asked p h = rw (cell_beyond (seg_len line) st asked p h) refl
+unfolding on_step
+held_beyond line z ways t st asked p h = let n : nat_lt p (seg_len line st.seg.0) ≡ false = grind (arith, nat_tests) in rw n refl
+
+-- nothing is held behind the end of the steps
+pub held_behind : (line : Line) (z : ℕ) (ways : List ZoneTrain) (t : ℕ) (asked : List DirSeg) (p : ℕ) → total (seg_len line) asked ≤ p → held_at line z ways t asked p ≡ false
+unfolding on_step total
+held_behind line z ways t [] p h = refl
+held_behind line z ways t (st ∷ asked) p h =
+    let n : nat_lt p (seg_len line st.seg.0) ≡ false = grind (arith, nat_tests) in
+    rw n (held_behind line z ways t asked (p - seg_len line st.seg.0) (omega arith))
 
 -- on a step it stops, or it goes on behind it
 module _ (here rest all : ℕ → Bool) (len n from q : ℕ) (h : (p : ℕ) → p < len → all p ≡ here p) (b : (p : ℕ) → len ≤ p → all p ≡ rest (p - len)) (i : IsNearest here len from q) where
@@ -165,7 +178,7 @@ pub way_on_own : (line : Line) (z s : ℕ) (x : ZoneTrain) → zone_of line s �
     → nat_lt (near_way (seg_len line) x (record { seg = record { 0 = s }; dir = Up }) 0) (seg_len line s) ≡ way_on line z s x
 way_on_own line z s x e =
     let y : nat_eq (zone_of line s) z ≡ true = grind (arith, nat_tests) in
-    rw y (sym (some_nearest _ _ _ (way_is (seg_len line) x (record { seg = record { 0 = s }; dir = Up }) 0)))
+    rw y (sym (some_nearest _ _ _ (way_is (layout line) x (record { seg = record { 0 = s }; dir = Up }) 0)))
 
 -- and none of a segment of another zone's
 pub way_on_else : (line : Line) (z s : ℕ) (x : ZoneTrain) → (zone_of line s ≡ z → ⊥) → nat_eq (zone_of line s) z ≡ way_on line z s x

@@ -1,19 +1,18 @@
 -- The closed form of a reach is the definition.
-use Rattle.std.proofs.Common.{◌≡◌, ℕ, ◌+◌, ◌-◌, ◌<◌, ◌≤◌, max, true, false, List, length, take, refl, arith, nat_lt}
+use Rattle.std.proofs.Common.{◌≡◌, ℕ, ◌+◌, ◌-◌, ◌<◌, ◌≤◌, max, true, List, length, take, refl, arith, nat_lt}
 use Rattle.std.proofs.lemmas.Bool.Decides.{nat_tests}
 use Rattle.std.proofs.lemmas.Grind.{common_steps}
 use Rattle.track_points.specs.declared.ids.DirSeg.{DirSeg}
 use Rattle.track_points.specs.declared.path.Path.{Path}
 use Rattle.track_points.specs.Points.{Lengths, total, place_of_last, end_place}
-use Rattle.track_points.proofs.Places.{cell_none}
-use Rattle.definitions.specs.Track.{Line, seg_len, last_step}
-use Rattle.definitions.specs.Limit.{Ask, reach_on, distance_on, obstructed, least_standing, asked_way, further}
+use Rattle.definitions.specs.Track.{Line, seg_len, layout, last_step}
+use Rattle.definitions.specs.Limit.{Ask, reach_on, distance_on, obstructed, first_standing, least_standing, asked_way, further}
 use Rattle.plain_state.specs.ZoneTrain.{ZoneTrain}
 use Rattle.plain_state.specs.Zone.{barring_plain}
 use Rattle.zone_reach.specs.declared.reach.Stop.{Stop}
 use Rattle.zone_reach.specs.Reach.{stop_on, stop_reach, path_fits, ReachFits}
 use Rattle.zone_reach.specs.Held.{first_held}
-use Rattle.zone_reach.proofs.Nearest.{held_at, first_held_is}
+use Rattle.zone_reach.proofs.Nearest.{held_at, held_behind, first_held_is}
 use Rattle.way_laws.proofs.First.{first_is, first_only}
 use Rattle.zone_reach.proofs.First.{stop_is, least_is, stop_near, stop_from}
 use Rattle.way_laws.proofs.Cut.{last_place, total_front}
@@ -42,25 +41,23 @@ module _ (line : Line) (z : ℕ) (ways : List ZoneTrain) (t : ℕ) (asked : List
   abbrev pub stop_there : Stop
   stop_there = stop_on (seg_len line) asked limit to held_place
 
-  none_behind : (p : ℕ) → total (seg_len line) asked ≤ p → held_at line z ways t asked p ≡ false
-  none_behind p h = rw (cell_none (seg_len line) asked p h) refl
-
-  distance_is : distance_on (seg_len line) ask_on ≡ stop_there.place - limit
+  distance_is : distance_on (layout line) ask_on ≡ stop_there.place - limit
   distance_is =
-      first_only (λ d. obstructed (seg_len line) ask_on (limit + d)) (max limit (place_of_last (seg_len line) asked to) - limit) _ _
-      (first_is (λ d. obstructed (seg_len line) ask_on (limit + d)) (max limit (place_of_last (seg_len line) asked to) - limit))
+      first_only (λ d. obstructed (layout line) ask_on (limit + d)) (max limit (place_of_last (seg_len line) asked to) - limit) _ _
+      (first_is (λ d. obstructed (layout line) ask_on (limit + d)) (max limit (place_of_last (seg_len line) asked to) - limit))
       (stop_is (nat_lt (seg_len line (last_step asked).seg.0) to) (nat_lt 24 (length asked)) (held_at line z ways t asked) limit (max limit (place_of_last (seg_len line) asked to))
-      (total (seg_len line) asked) (total (seg_len line) (take 24 asked)) held_place (omega arith) (first_held_is line z ways t asked limit) none_behind)
+      (total (seg_len line) asked) (total (seg_len line) (take 24 asked)) held_place (omega arith) (first_held_is line z ways t asked limit) (held_behind line z ways t asked))
 
-  obstacle_is : least_standing (seg_len line) ask_on (limit + distance_on (seg_len line) ask_on) ≡ stop_there.obstacle
+  obstacle_is : least_standing (layout line) ask_on (limit + distance_on (layout line) ask_on) ≡ stop_there.obstacle
+  unfolding first_standing
   obstacle_is =
       let after = stop_after (seg_len line) asked limit to held_place in
       let d = distance_is in
-      let e : limit + distance_on (seg_len line) ask_on ≡ stop_there.place = omega arith in
+      let e : limit + distance_on (layout line) ask_on ≡ stop_there.place = omega arith in
       rw e (least_is (nat_lt (seg_len line (last_step asked).seg.0) to) (nat_lt 24 (length asked)) (held_at line z ways t asked) limit (max limit (place_of_last (seg_len line) asked to))
-      (total (seg_len line) asked) (total (seg_len line) (take 24 asked)) held_place (omega arith) (first_held_is line z ways t asked limit) none_behind)
+      (total (seg_len line) asked) (total (seg_len line) (take 24 asked)) held_place (omega arith) (first_held_is line z ways t asked limit) (held_behind line z ways t asked))
 
-  pub reach_is : stop_reach limit stop_there ≡ reach_on (seg_len line) ask_on
+  pub reach_is : stop_reach limit stop_there ≡ reach_on (layout line) ask_on
   reach_is = let d = distance_is in let o = obstacle_is in cc
 
 -- the end of a way is not behind the first 24 steps of an asked way

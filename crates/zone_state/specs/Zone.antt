@@ -3,7 +3,7 @@ use Rattle.std.specs.Prelude.{◌≡◌, ℕ, suc, ℤ, List, [], ◌∷◌, ◌
 use Rattle.track_points.specs.declared.ids.DirSeg.{DirSeg}
 use Rattle.track_points.specs.declared.ids.TrainId.{TrainId}
 use Rattle.track_points.specs.declared.path.Path.{Path}
-use Rattle.track_points.specs.Points.{Lengths, Point}
+use Rattle.track_points.specs.Points.{Lengths, Layout, Point}
 use Rattle.track_points.specs.Sets.{Points, set_has}
 use Rattle.definitions.specs.Track.{Line, seg_len, has_segment, last_step}
 use Rattle.definitions.specs.declared.message.Msg.{Msg}
@@ -88,10 +88,10 @@ InRange (msg.EntryAsk t time long error speed equipped step) = 1 ≤ long
 InRange _ = ⊤
 
 -- the set of an envelope, of a train that the zone controls
-abbrev pub IsEnvelope : Lengths → Option ZoneTrain → Option Points → Type 0
-IsEnvelope len None None = ⊤
-IsEnvelope len (Some x) (Some set) = (point : Point) → set_has set point ≡ envelope_has len x point
-IsEnvelope len _ _ = ⊥
+abbrev pub IsEnvelope : Layout → Option ZoneTrain → Option Points → Type 0
+IsEnvelope layout None None = ⊤
+IsEnvelope layout (Some x) (Some set) = (point : Point) → set_has set point ≡ envelope_has layout x point
+IsEnvelope layout _ _ = ⊥
 
 abbrev pub is_train : ℕ → Controlled → Bool
 is_train t x = nat_eq x.id.0 t

@@ -4,7 +4,7 @@ ghost use Rattle.std.specs.List.{list_all, position};
 ghost use Rattle.track_points.specs.Points.{Point, has_between};
 ghost use Rattle.track_points.specs.Sets.{set_has};
 ghost use Rattle.definitions.specs.declared.item.Item.{Item};
-ghost use Rattle.definitions.specs.Track.{owner, seg_len, has_segment};
+ghost use Rattle.definitions.specs.Track.{owner, seg_len, layout, has_segment};
 ghost use Rattle.definitions.specs.Steps.{nothing, zone_ask, zone_entry, deny, refuse, entry_path};
 ghost use Rattle.way_path.specs.Ways.{IsWay, OnLine, EndsWithPath};
 ghost use Rattle.plain_state.specs.Zone.{find_way, change_way, answered_by, lengthened, last_found, path_found, way_found, again_found, placed_way, reach_plain, holder_plain, full, fresh_train, ways_asked, ways_entered, entered_way};
@@ -59,9 +59,9 @@ fn denied(zone: u8, train: TrainId, reach: Reach, outs: &mut Outs)
     outs.tell(Outcome::Deny(ZoneId(zone), train, reach.obstacle));
 }
 
-/// The points of a way in a zone's own track.
+/// The points of a way that a zone owns.
 pub fn hold_of(line: &Line, zone: u8, way: &Way) -> PointSet
-    ensures hold { (point : Point) → set_has result point ≡ (nat_eq (owner line.now point) zone && has_between (seg_len line.now) way.now.path.steps.items way.now.path.from way.now.end point) }
+    ensures hold { (point : Point) → set_has result point ≡ (nat_eq (owner line.now point) zone && has_between (layout line.now) way.now.path.steps.items way.now.path.from way.now.end point) }
     ensures way { IsWay way.now }
 {
     let from = way.path().from;

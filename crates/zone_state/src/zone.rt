@@ -3,7 +3,7 @@ ghost use Rattle.std.specs.Prelude.{◌≡◌, ◌≤◌, ◌&&◌, if◌then◌
 ghost use Rattle.std.specs.List.{list_all};
 ghost use Rattle.track_points.specs.Points.{Point};
 ghost use Rattle.track_points.specs.Sets.{set_has};
-ghost use Rattle.definitions.specs.Track.{seg_len};
+ghost use Rattle.definitions.specs.Track.{layout};
 ghost use Rattle.definitions.specs.Control.{message_time};
 ghost use Rattle.definitions.specs.Steps.{nothing};
 ghost use Rattle.plain_state.specs.Plain.{zone_start};
@@ -333,7 +333,7 @@ impl Zone {
     /// The points that a train may have: those of its way from its least rear to its greatest front.
     pub fn envelope(&self, line: &Line, train: TrainId) -> Option<PointSet>
         requires { IsZoneOn line.now self.now }
-        ensures { IsEnvelope (seg_len line.now) (find_way train.0 (plain_zone self.now).trains) result }
+        ensures { IsEnvelope (layout line.now) (find_way train.0 (plain_zone self.now).trains) result }
     {
         match train_index(self.trains.as_slice(), train) {
             None => None,

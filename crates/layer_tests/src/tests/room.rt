@@ -1,7 +1,7 @@
 //! The room of a step.
 
 use definitions::message::Msg;
-use definitions::outcome::{Outcome, Verdict};
+use definitions::outcome::{AnswerWord, Outcome};
 use msg_codec::Outs;
 use std::alloc::AllocError;
 use track_points::TrainId;
@@ -18,7 +18,7 @@ fn a_step_has_room(rt: HostRuntime) -> Result<(), AllocError> {
             taken: true,
         },
     );
-    outs.tell(Outcome::Answer(TrainId(7), 1, Verdict::Taken));
+    outs.tell(Outcome::Answer(TrainId(7), 1, AnswerWord::Taken));
     assert!(rt; outs.messages().len() == 1 && outs.lines().len() == 1);
     outs.clear();
     assert!(rt; outs.messages().len() == 0 && outs.lines().len() == 0);

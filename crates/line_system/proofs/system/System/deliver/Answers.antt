@@ -1,5 +1,5 @@
 use Rattle.std.proofs.Common.{◌≡◌, ℕ, ◌≤◌, ◌+◌, ◌-◌, arith}
-use Rattle.line_system.specs.State.{plain, taken}
+use Rattle.line_system.specs.State.{parts, taken}
 use Rattle.line_system.proofs.Delivering.{Midway, midway_start, midway_next, midway_keeps, midway_end}
 use Rattle.line_system.proofs.Story.{due_is}
 use Rattle.line_system.proofs.system.System.deliver.Goals as goal
@@ -42,7 +42,7 @@ go-requires-clause-built c =
       lines = c.loop-number.invariant.lines;
     } in
     let k = midway_keeps c.args.self c.args.to c.due-from.result.0 c.due-from.result.1 c.due-from.result.2 c.loop-number.number c.loop-number.system c.args.lines.now.items c.loop-number.lines.items m c.loop-number-test.true c.requires
-    (due_is c.args.self c.self.inside.line c.self.inside.events.items (plain c.self.inside.state) (taken c.self.inside.state) c.self.inside.state.zone c.args.to c.due-from.result.0 c.due-from.result.1 c.due-from.result.2 c.self.view_is c.self.invariant c.requires c.due-from.ensures) in
+    (due_is c.args.self c.self.inside.line c.self.inside.events.items (parts c.self.inside.state) (taken c.self.inside.state) c.self.inside.state.zone c.args.to c.due-from.result.0 c.due-from.result.1 c.due-from.result.2 c.self.view_is c.self.invariant c.requires c.due-from.ensures) in
     k.built
 
 pub go-requires-clause-kept : goal.go-requires-clause-kept
@@ -53,7 +53,7 @@ go-requires-clause-kept c =
       lines = c.loop-number.invariant.lines;
     } in
     let k = midway_keeps c.args.self c.args.to c.due-from.result.0 c.due-from.result.1 c.due-from.result.2 c.loop-number.number c.loop-number.system c.args.lines.now.items c.loop-number.lines.items m c.loop-number-test.true c.requires
-    (due_is c.args.self c.self.inside.line c.self.inside.events.items (plain c.self.inside.state) (taken c.self.inside.state) c.self.inside.state.zone c.args.to c.due-from.result.0 c.due-from.result.1 c.due-from.result.2 c.self.view_is c.self.invariant c.requires c.due-from.ensures) in
+    (due_is c.args.self c.self.inside.line c.self.inside.events.items (parts c.self.inside.state) (taken c.self.inside.state) c.self.inside.state.zone c.args.to c.due-from.result.0 c.due-from.result.1 c.due-from.result.2 c.self.view_is c.self.invariant c.requires c.due-from.ensures) in
     k.kept
 
 pub returns-clause-history : goal.returns-clause-history
@@ -64,7 +64,7 @@ returns-clause-history c =
       lines = c.loop-number.invariant.lines;
     } in
     (midway_end c.args.self c.args.to c.due-from.result.0 c.due-from.result.1 c.due-from.result.2 c.loop-number.number c.loop-number.system c.args.lines.now.items c.loop-number.lines.items m (all_made c.due-from.result.1 c.due-from.result.2 c.loop-number.number c.loop-number.invariant.taken c.loop-number.invariant.within c.loop-number-test.false)
-    (due_is c.args.self c.self.inside.line c.self.inside.events.items (plain c.self.inside.state) (taken c.self.inside.state) c.self.inside.state.zone c.args.to c.due-from.result.0 c.due-from.result.1 c.due-from.result.2 c.self.view_is c.self.invariant c.requires c.due-from.ensures)).0
+    (due_is c.args.self c.self.inside.line c.self.inside.events.items (parts c.self.inside.state) (taken c.self.inside.state) c.self.inside.state.zone c.args.to c.due-from.result.0 c.due-from.result.1 c.due-from.result.2 c.self.view_is c.self.invariant c.requires c.due-from.ensures)).0
 
 pub returns-clause-lines : goal.returns-clause-lines
 returns-clause-lines c =
@@ -74,4 +74,4 @@ returns-clause-lines c =
       lines = c.loop-number.invariant.lines;
     } in
     (midway_end c.args.self c.args.to c.due-from.result.0 c.due-from.result.1 c.due-from.result.2 c.loop-number.number c.loop-number.system c.args.lines.now.items c.loop-number.lines.items m (all_made c.due-from.result.1 c.due-from.result.2 c.loop-number.number c.loop-number.invariant.taken c.loop-number.invariant.within c.loop-number-test.false)
-    (due_is c.args.self c.self.inside.line c.self.inside.events.items (plain c.self.inside.state) (taken c.self.inside.state) c.self.inside.state.zone c.args.to c.due-from.result.0 c.due-from.result.1 c.due-from.result.2 c.self.view_is c.self.invariant c.requires c.due-from.ensures)).1
+    (due_is c.args.self c.self.inside.line c.self.inside.events.items (parts c.self.inside.state) (taken c.self.inside.state) c.self.inside.state.zone c.args.to c.due-from.result.0 c.due-from.result.1 c.due-from.result.2 c.self.view_is c.self.invariant c.requires c.due-from.ensures)).1
