@@ -21,40 +21,39 @@ const USAGE: &str = "usage: cbtc run, check, race, race trace or big N\n";
 
 /// The text of a part, without its last LF.
 fn part(name: &str) -> Option<&'static str> {
-    for told in PARTS.split("\n: ") {
-        if let Some((found, text)) = told.split_once('\n') {
-            if found == name {
-                return Some(text);
-            }
+    for (found, text) in PARTS {
+        if *found == name {
+            return Some(*text);
         }
     }
     None
 }
 
-/// The document that is told: its lines, and for each line `+ PART` those of the part.
-fn document(alloc: Global, told: &str) -> Result<Vec<u8>, AllocError> {
-    let mut all = Vec::new(alloc);
-    let mut is_first = true;
-    for line in told.split('\n') {
-        if !is_first {
-            all.push(b'\n')?;
-        }
-        is_first = false;
-        let text = match line.strip_prefix("+ ") {
-            Some(name) => part(name).unwrap_or(line),
-            None => line,
-        };
-        all.extend_from_slice(text.as_bytes())?;
-    }
-    Ok(all)
+/// Adds a line that is told: `+ PART` stands for the lines of the part.
+fn add_line(input: &mut Vec<u8>, line: &str) -> Result<(), AllocError> {
+    let text = match line.strip_prefix("+ ") {
+        Some(name) => part(name).unwrap_or(line),
+        None => line,
+    };
+    input.extend_from_slice(text.as_bytes())?;
+    input.push(b'\n')?;
+    Ok(())
 }
 
-fn strings(alloc: Global, words: &[&str]) -> Result<Vec<String>, AllocError> {
-    let mut all = Vec::new(alloc);
+/// Adds the document that is told; its last line has no LF.
+fn add_document(input: &mut Vec<u8>, told: &str) -> Result<(), AllocError> {
+    for line in told.split('\n') {
+        add_line(input, line)?;
+    }
+    let _ = input.pop();
+    Ok(())
+}
+
+fn add_words(all: &mut Vec<String>, alloc: Global, words: &[&str]) -> Result<(), AllocError> {
     for word in words {
         all.push(String::from_str(alloc, word)?)?;
     }
-    Ok(all)
+    Ok(())
 }
 
 /// What the call gives over a source and a sink that fail at those calls: its status, and what it wrote.
@@ -66,53 +65,93 @@ fn given(
     writes: &[u32],
     room: usize,
 ) -> Result<(Status, Vec<u8>), AllocError> {
-    let words = strings(alloc, words)?;
+    let mut told = Vec::new(alloc);
+    add_words(&mut told, alloc, words)?;
     let mut src = SliceSource::new(input, reads);
     let mut sink = VecSink::new(alloc, room, writes)?;
-    let status = cbtc_top(alloc, &words, &mut src, &mut sink, &NoGate);
+    let status = cbtc_top(alloc, &told, &mut src, &mut sink, &NoGate);
     let mut text = Vec::new(alloc);
     text.extend_from_slice(sink.bytes())?;
     Ok((status, text))
 }
 
-/// Whether this is a row; what a run of its document gives is what it tells.
-fn gives_what_it_tells(
-    rt: &(impl Abort + Alloc<A = Global>),
-    row: &str,
-) -> Result<bool, AllocError> {
-    let Some((name, rest)) = row.split_once('\n') else {
-        return Ok(false);
-    };
-    let Some((told, wanted)) = rest.split_once("\n- ") else {
-        return Ok(false);
-    };
-    let Some((code, text)) = wanted.split_once('\n') else {
-        return Ok(false);
-    };
-    let mut input = document(rt.alloc(), told)?;
-    input.push(b'\n')?;
-    let (status, written) = given(rt.alloc(), RUN, &input, &[], &[], 1000)?;
-    let number = format!(in rt.alloc(); "{}", status.code())?;
-    assert_eq!(rt; number.as_str(), code, "{name}");
-    assert_eq!(rt;
-        written.strip_suffix(b"\n"),
-        Some(text.as_bytes()),
-        "{name}"
-    );
-    Ok(true)
+/// Ends the test where what it tells does not hold.
+fn check(rt: &impl Abort, told: &str, holds: bool) {
+    assert!(rt; holds, "{told}");
+}
+
+/// The row of a table that is read: its document, and the status and the text that a run of it is to give; and how many rows
+/// were tried.
+#[derive(Drop)]
+struct Rows {
+    input: Vec<u8>,
+    code: Option<u8>,
+    text: Vec<u8>,
+    tried: u32,
+}
+
+impl Rows {
+    /// Whether a run of the row's document gives what the row tells.
+    fn is_given(&self, alloc: Global) -> Result<bool, AllocError> {
+        let (status, text) = given(alloc, RUN, self.input.as_slice(), &[], &[], 1000)?;
+        Ok(Some(status.code()) == self.code && text.as_slice() == self.text.as_slice())
+    }
+
+    /// Tries the row, where one was read, and begins the next.
+    fn try_row(&mut self, rt: &(impl Abort + Alloc<A = Global>)) -> Result<(), AllocError> {
+        if self.code.is_some() {
+            let holds = self.is_given(rt.alloc())?;
+            assert!(rt; holds, "row {}, from 0", self.tried);
+            self.tried = self.tried.saturating_add(1);
+        }
+        self.input.clear();
+        self.code = None;
+        self.text.clear();
+        Ok(())
+    }
+
+    /// Adds a line: one of the document up to the line `- STATUS`, and behind it one of the text.
+    fn add(&mut self, line: &str) -> Result<(), AllocError> {
+        if let Some(code) = line.strip_prefix("- ") {
+            self.code = code.parse::<u8>().ok();
+            return Ok(());
+        }
+        if self.code.is_none() {
+            return add_line(&mut self.input, line);
+        }
+        self.text.extend_from_slice(line.as_bytes())?;
+        self.text.push(b'\n')?;
+        Ok(())
+    }
+
+    /// A line of a table: `= NAME` begins a row.
+    fn line(
+        &mut self,
+        rt: &(impl Abort + Alloc<A = Global>),
+        line: &str,
+    ) -> Result<(), AllocError> {
+        if line.starts_with("= ") {
+            return self.try_row(rt);
+        }
+        self.add(line)
+    }
 }
 
 #[test]
 fn documents_of_the_tables(rt: HostRuntime) -> Result<(), AllocError> {
-    let mut rows = 0u32;
+    let mut rows = Rows {
+        input: Vec::new(rt.alloc()),
+        code: None,
+        text: Vec::new(rt.alloc()),
+        tried: 0,
+    };
     for table in TABLES {
-        for row in table.split("\n= ") {
-            if gives_what_it_tells(&rt, row)? {
-                rows = rows.saturating_add(1);
-            }
+        for line in table.split('\n') {
+            rows.line(&rt, line)?;
         }
+        rows.try_row(&rt)?;
     }
-    assert_eq!(rt; rows, ROWS);
+    assert!(rt; rows.tried == ROWS);
     Ok(())
 }
 
@@ -221,49 +260,77 @@ const CALLS: &[Call<'static>] = &[
     },
 ];
 
+/// Whether a call gives what it is to give.
+fn gives(alloc: Global, call: &Call<'_>) -> Result<bool, AllocError> {
+    let mut input = Vec::new(alloc);
+    add_document(&mut input, call.told)?;
+    let (status, text) = given(
+        alloc,
+        call.words,
+        input.as_slice(),
+        call.reads,
+        call.writes,
+        call.room,
+    )?;
+    Ok(status == call.status && text.as_slice() == call.text.as_bytes())
+}
+
 #[test]
 fn calls(rt: HostRuntime) -> Result<(), AllocError> {
     for call in CALLS {
-        let input = document(rt.alloc(), call.told)?;
-        let (status, text) = given(
-            rt.alloc(),
-            call.words,
-            &input,
-            call.reads,
-            call.writes,
-            call.room,
-        )?;
-        assert_eq!(rt; status, call.status, "{}", call.name);
-        assert_eq!(rt; text.as_slice(), call.text.as_bytes(), "{}", call.name);
+        check(&rt, call.name, gives(rt.alloc(), call)?);
     }
     Ok(())
 }
 
-/// A sink that fails at any one call keeps a front of the text, and says so.
+/// Whether a run whose sink fails at that call says so, and wrote a front of the text.
+fn fails_at(alloc: Global, input: &[u8], call: u32) -> Result<bool, AllocError> {
+    let writes = [call];
+    let (status, text) = given(alloc, RUN, input, &[], &writes, 1000)?;
+    let whole = ONE_TRAIN_TOLD.as_bytes();
+    Ok(status == Status::Write && whole.starts_with(text.as_slice()) && text.len() < whole.len())
+}
+
 #[test]
 fn each_write_fails(rt: HostRuntime) -> Result<(), AllocError> {
-    let input = document(rt.alloc(), ONE_TRAIN)?;
+    let mut input = Vec::new(rt.alloc());
+    add_document(&mut input, ONE_TRAIN)?;
     for call in 1..34 {
-        let (status, text) = given(rt.alloc(), RUN, &input, &[], &[call], 1000)?;
-        assert_eq!(rt; status, Status::Write, "call {call}");
-        assert!(rt; ONE_TRAIN_TOLD.as_bytes().starts_with(&text), "call {call}");
-        assert!(rt; text.len() < ONE_TRAIN_TOLD.len(), "call {call}");
+        let fails = fails_at(rt.alloc(), input.as_slice(), call)?;
+        assert!(rt; fails, "call {call}");
     }
     Ok(())
+}
+
+/// Whether a run gives a status and a text.
+fn run_gives(alloc: Global, input: &[u8], status: Status, text: &str) -> Result<bool, AllocError> {
+    let (given, written) = given(alloc, RUN, input, &[], &[], 1000)?;
+    Ok(given == status && written.as_slice() == text.as_bytes())
+}
+
+/// Whether a comment of so many bytes gives a status and a text.
+fn comment_gives(
+    alloc: Global,
+    size: usize,
+    status: Status,
+    text: &str,
+) -> Result<bool, AllocError> {
+    let input = vec![in alloc; b'#'; size]?;
+    run_gives(alloc, input.as_slice(), status, text)
 }
 
 /// A comment may fill the input up to its limit, and no byte more.
 #[test]
 fn at_the_limit(rt: HostRuntime) -> Result<(), AllocError> {
-    for (size, status, text) in [
-        (67_108_864, Status::Line, "line 2 rule 1\n"),
-        (67_108_865, Status::Limit, "limit input 67108864\n"),
-    ] {
-        let input = vec![in rt.alloc(); b'#'; size]?;
-        let (given, written) = given(rt.alloc(), RUN, &input, &[], &[], 1000)?;
-        assert_eq!(rt; given, status, "{size}");
-        assert_eq!(rt; written.as_slice(), text.as_bytes(), "{size}");
-    }
+    let just = comment_gives(rt.alloc(), 67_108_864, Status::Line, "line 2 rule 1\n")?;
+    check(&rt, "just within the limit", just);
+    let past = comment_gives(
+        rt.alloc(),
+        67_108_865,
+        Status::Limit,
+        "limit input 67108864\n",
+    )?;
+    check(&rt, "a byte past the limit", past);
     Ok(())
 }
 
@@ -285,40 +352,50 @@ fn numbered(
 /// A line may have 512 segments, and no more: text line 1 is the zone, text line 514 the segment too many.
 #[test]
 fn too_many_segments(rt: HostRuntime) -> Result<(), AllocError> {
-    let mut input = document(rt.alloc(), "zone 1\n")?;
+    let mut input = Vec::new(rt.alloc());
+    add_document(&mut input, "zone 1\n")?;
     numbered(rt.alloc(), &mut input, "segment", 514, "1 1000")?;
-    let (status, text) = given(rt.alloc(), RUN, &input, &[], &[], 1000)?;
-    assert_eq!(rt; status, Status::Line);
-    assert_eq!(rt; text.as_slice(), b"line 514 rule 5\n".as_slice());
+    let refused = run_gives(
+        rt.alloc(),
+        input.as_slice(),
+        Status::Line,
+        "line 514 rule 5\n",
+    )?;
+    check(&rt, "a segment too many", refused);
     Ok(())
+}
+
+/// Whether so many trains, and what comes behind them, give a status and a text.
+fn trains_give(
+    alloc: Global,
+    trains: u32,
+    more: &str,
+    status: Status,
+    text: &str,
+) -> Result<bool, AllocError> {
+    let mut input = Vec::new(alloc);
+    add_document(&mut input, "+ four segments\nscript\n")?;
+    numbered(
+        alloc,
+        &mut input,
+        "train",
+        trains.saturating_add(1),
+        "1000 10 100 eq",
+    )?;
+    input.extend_from_slice(more.as_bytes())?;
+    run_gives(alloc, input.as_slice(), status, text)
 }
 
 /// 256 trains may be declared, and no more. The first of them is text line 12, the 257th would be text line 268; a train
 /// that is declared already is refused as such, however many there are.
 #[test]
 fn too_many_trains(rt: HostRuntime) -> Result<(), AllocError> {
-    for (trains, more, status, text) in [
-        (256, "", Status::Done, "done 256\n"),
-        (
-            256,
-            "train 256 1000 10 100 eq\n",
-            Status::Unbuilt,
-            "unbuilt 268\n",
-        ),
-        (257, "", Status::Limit, "limit trains 256\n"),
-    ] {
-        let mut input = document(rt.alloc(), "+ four segments\nscript\n")?;
-        numbered(
-            rt.alloc(),
-            &mut input,
-            "train",
-            trains + 1,
-            "1000 10 100 eq",
-        )?;
-        input.extend_from_slice(more.as_bytes())?;
-        let (given, written) = given(rt.alloc(), RUN, &input, &[], &[], 1000)?;
-        assert_eq!(rt; given, status, "{text}");
-        assert_eq!(rt; written.as_slice(), text.as_bytes(), "{text}");
-    }
+    let again = "train 256 1000 10 100 eq\n";
+    let just = trains_give(rt.alloc(), 256, "", Status::Done, "done 256\n")?;
+    check(&rt, "256 trains", just);
+    let twice = trains_give(rt.alloc(), 256, again, Status::Unbuilt, "unbuilt 268\n")?;
+    check(&rt, "a train again", twice);
+    let more = trains_give(rt.alloc(), 257, "", Status::Limit, "limit trains 256\n")?;
+    check(&rt, "257 trains", more);
     Ok(())
 }

@@ -1,11 +1,13 @@
 -- The takes that a delivery stands for are admitted where they stand: they name messages that were sent.
 use Rattle.std.proofs.Common.{◌≡◌, ℕ, zero, suc, ◌+◌, ◌-◌, ◌≤◌, ◌<◌, List, [], ◌∷◌, length, Bool, true, false, refl, sym, ◌∙◌, ap, arith}
+use Rattle.std.proofs.lemmas.Bool.{eqb-true}
 use Rattle.std.proofs.lemmas.Bool.Decides.{nat_tests}
 use Rattle.std.proofs.lemmas.List.Folds.{list_all-append}
 use Rattle.std.specs.Prelude.{nat_eq, nat_lt, nat_le, ◌&&◌, not, filter, flat_map, Option, Some, None}
 use Rattle.std.specs.List.{list_all}
+use Rattle.track_points.proofs.Some.{by_test}
 use Rattle.definitions.specs.declared.event.Event.{Event}
-use Rattle.definitions.specs.declared.event.Event.TheVariants.{Train, Entry, Enter, Ask, Step, Report, Time, Take, Deliver}
+use Rattle.definitions.specs.declared.event.Event.TheVariants.{Take, Deliver}
 use Rattle.definitions.specs.declared.message.Msg.{Msg}
 use Rattle.definitions.specs.Track.{Line, is_actor}
 use Rattle.definitions.specs.Story.{Story, sent}
@@ -14,14 +16,7 @@ use Rattle.definitions.specs.Premises.{admits}
 use Rattle.definitions.specs.Steps.{effects, story_of, taking, message, taken_most, takes_from, due, sends_to, actors, deliveries}
 use Rattle.definitions.specs.Safe.{Kept}
 use Rattle.definitions.specs.Trace.{went, stands_for}
-
-pub by_test : {P : Type 0} (b : Bool) → (b ≡ true → P) → (b ≡ false → P) → P
-by_test true f g = f refl
-by_test false f g = g refl
-
-pub both : (x y : Bool) → (x && y) ≡ true → (x ≡ true) × (y ≡ true)
-both true y h = (refl, h)
-both false y h = absurd cc
+use Rattle.event_laws.proofs.Notions.{both, not_true}
 
 all : (x y : Bool) → x ≡ true → y ≡ true → (x && y) ≡ true
 all x y h k = grind arith
@@ -45,7 +40,7 @@ fits line to s _ = false
 abbrev SameSent : ℕ → Story → Story → Type 0
 SameSent to s t = (from : ℕ) → nat_eq to from ≡ false → sent from to t ≡ sent from to s
 
-taker : (line : Line) (s : Story) (e : Event) (to from : ℕ) (m : Option Msg) → (taking line s e to from m).actor ≡ to
+pub taker : (line : Line) (s : Story) (e : Event) (to from : ℕ) (m : Option Msg) → (taking line s e to from m).actor ≡ to
 taker line s e to from None = refl
 taker line s e to from (Some m) = refl
 
@@ -55,20 +50,13 @@ unfolding sent
 same_more line to from number s t same other h =
     rw (taker line t (Take to from number) to from (message from to number t), h) (same other h)
 
-not_same : (b : Bool) → not b ≡ true → b ≡ false
-not_same true h = absurd cc
-not_same false h = refl
-
-number_same : (m n : ℕ) → nat_eq m n ≡ true → m ≡ n
-number_same m n h = grind (arith, nat_tests)
-
 fit_admitted : (line : Line) (to from number : ℕ) (s t : Story) → SameSent to s t → is_actor line to ≡ true → fits line to s (Take to from number) ≡ true → admits line t (Take to from number) ≡ true
 unfolding least
 fit_admitted line to from number s t same act h =
     let k = both (nat_eq to to) (sends_to line to from && (nat_lt 0 number && nat_le number (length (sent from to s)))) h in
     let x = both (sends_to line to from) (nat_lt 0 number && nat_le number (length (sent from to s))) k.1 in
     let y = both (not (nat_eq to from)) (is_actor line from) x.0 in
-    let other = not_same (nat_eq to from) y.0 in
+    let other = not_true (nat_eq to from) y.0 in
     rw (other, act, y.1, same from other, x.1) refl
 
 pub all_admitted : (line : Line) (to : ℕ) (more : List Event) (s : Story) (before : List Event) → SameSent to s (story_of line before) → is_actor line to ≡ true → list_all (fits line to s) more ≡ true → AllAdmitted line before more
@@ -76,18 +64,11 @@ unfolding AllAdmitted story_of
 all_admitted line to [] s before same act h = tt
 all_admitted line to (Take a from number ∷ more) s before same act h =
     let k = both (fits line to s (Take a from number)) (list_all (fits line to s) more) h in
-    let e : a ≡ to = number_same a to (both (nat_eq a to) _ k.0).0 in
+    let e : a ≡ to = eqb-true a to (both (nat_eq a to) _ k.0).0 in
     rw e ((fit_admitted line to from number s (story_of line before) same act (rw e at k.0), all_admitted line to more s (Take to from number ∷ before) (same_more line to from number s (story_of line before) same) act k.1))
-all_admitted line to (Train t long error speed kind ∷ more) s before same act h = absurd cc
-all_admitted line to (Entry t step ∷ more) s before same act h = absurd cc
-all_admitted line to (Enter t ∷ more) s before same act h = absurd cc
-all_admitted line to (Ask t z steps end ∷ more) s before same act h = absurd cc
-all_admitted line to (Step ms moves ∷ more) s before same act h = absurd cc
-all_admitted line to (Report t z step offset whole ∷ more) s before same act h = absurd cc
-all_admitted line to (Time z t ∷ more) s before same act h = absurd cc
-all_admitted line to (Deliver a ∷ more) s before same act h = absurd cc
+all_admitted line to _ s before same act h = absurd cc
 
-eq_same : (n : ℕ) → nat_eq n n ≡ true
+pub eq_same : (n : ℕ) → nat_eq n n ≡ true
 eq_same n = grind (arith, nat_tests)
 
 some_lt : (n : ℕ) → 0 < n → nat_lt 0 n ≡ true
@@ -124,12 +105,5 @@ one_admitted line before s e is h = (ap (λ x. admits line x e) (sym is) ∙ h, 
 
 -- what an event of a script stands for is admitted where the event is
 pub stands_admitted : (line : Line) (before : List Event) (s : Story) (e : Event) → s ≡ story_of line before → admits line s e ≡ true → AllAdmitted line before (stands_for line s e)
-stands_admitted line before s (Train t long error speed kind) is h = one_admitted line before s (Train t long error speed kind) is h
-stands_admitted line before s (Entry t step) is h = one_admitted line before s (Entry t step) is h
-stands_admitted line before s (Enter t) is h = one_admitted line before s (Enter t) is h
-stands_admitted line before s (Ask t z steps end) is h = one_admitted line before s (Ask t z steps end) is h
-stands_admitted line before s (Step ms moves) is h = one_admitted line before s (Step ms moves) is h
-stands_admitted line before s (Report t z step offset whole) is h = one_admitted line before s (Report t z step offset whole) is h
-stands_admitted line before s (Time z t) is h = one_admitted line before s (Time z t) is h
-stands_admitted line before s (Take to from number) is h = one_admitted line before s (Take to from number) is h
 stands_admitted line before s (Deliver to) is h = delivery_admitted line before s to is (both (is_actor line to) _ h).0
+stands_admitted line before s e is h = one_admitted line before s e is h

@@ -15,22 +15,22 @@ use Rattle.definitions.specs.Rules.{rule_of, finish_rule, is_any_zone, builds, i
 use Rattle.definitions.specs.Story.{Story}
 use Rattle.definitions.specs.Premises.{built, too_many, premise_of, admits}
 use Rattle.definitions.specs.World.{clock}
+use Rattle.definitions.specs.Control.{last_issued}
 use Rattle.definitions.specs.Steps.{story_of}
 use Rattle.definitions.specs.Safe.{Kept, IsLineOfOneZone}
 use Rattle.definitions.specs.Trace.{Stage, Items, Script, Over, Reading, start, is_over, input_limit, text_read, line_read, stage_read, second_zone, item_read, script_read, stands_for, event_read}
 use Rattle.document_laws.specs.Throughout.{stands, SafeHistory, SafeAt, SafeThroughout}
-use Rattle.document_laws.proofs.Clocks.{clock_small}
-use Rattle.document_laws.proofs.Delivered.{by_test, both, kept_went, stands_admitted}
+use Rattle.document_laws.proofs.Few_numbers.{last_before}
+use Rattle.document_laws.proofs.Bounds.{clock_small, numbers_small}
+use Rattle.event_laws.proofs.Notions.{both, neither}
+use Rattle.track_points.proofs.Some.{by_test}
+use Rattle.document_laws.proofs.Delivered.{kept_went, stands_admitted}
 
 -- the first holds, the second does not, and the third holds
 pub all_three : (x y z : Bool) → (x && (not y && z)) ≡ true → (x ≡ true) × (y ≡ false) × (z ≡ true)
 all_three true false z h = (refl, refl, h)
 all_three true true z h = absurd cc
 all_three false y z h = absurd cc
-
-pub neither : (x y : Bool) → (x || y) ≡ false → (x ≡ false) × (y ≡ false)
-neither true y h = absurd cc
-neither false y h = (refl, h)
 
 -- one item more
 pub builds_more : (before items : List Item) (i : Item) → builds before items ≡ true → nat_eq (rule_of (before ++ items) i) 0 ≡ true → builds before (items ++ i ∷ []) ≡ true
@@ -123,9 +123,13 @@ pub good_start : Good start.stage
 unfolding builds
 good_start = (refl, omega arith)
 
--- the safety of stories, told of every valid line of one zone and of all events that keep the premises
+-- the numbers of authorities are small
+abbrev pub SmallNumbers : Line → List Event → Type 0
+SmallNumbers line events = (t : ℕ) → last_issued t (story_of line events) < 2 ^ 27
+
+-- the safety of stories, told of every valid line of one zone and of all events that keep the premises and have small numbers
 abbrev pub SafeStories : Type 0
-SafeStories = (line : Line) (events : List Event) → IsLineOfOneZone line → Kept line events → SafeHistory line events
+SafeStories = (line : Line) (events : List Event) → IsLineOfOneZone line → Kept line events → SmallNumbers line events → SafeHistory line events
 
 -- the history before its newest events
 kept_before : (line : Line) (k : ℕ) (events : List Event) → Kept line events → Kept line (drop k events)
@@ -134,13 +138,20 @@ kept_before line zero events h = h
 kept_before line (suc k) [] h = h
 kept_before line (suc k) (e ∷ events) h = kept_before line k events h.1
 
+small_before : (line : Line) (k : ℕ) (events : List Event) → SmallNumbers line events → SmallNumbers line (drop k events)
+small_before line k events h t = let n = h t in let l = last_before line k events t in omega (arith, n, l)
+
 abbrev SmallClock : Stage → Type 0
 SmallClock s = (line : Line) (events : List Event) (count : ℕ) → s ≡ Script line events count → clock (story_of line events) < 2 ^ 40
 
-pub safe_at : SafeStories → (s : Stage) → Good s → SmallClock s → SafeAt s
-safe_at safe (Items items) g c = tt
-safe_at safe (Script line events count) g c = (λ k. safe line (drop k events) g.0 (kept_before line k events g.1), c line events count refl)
-safe_at safe (Over ending) g c = tt
+abbrev SmallNumbersAt : Stage → Type 0
+SmallNumbersAt s = (line : Line) (events : List Event) (count : ℕ) → s ≡ Script line events count → SmallNumbers line events
+
+pub safe_at : SafeStories → (s : Stage) → Good s → SmallClock s → SmallNumbersAt s → SafeAt s
+safe_at safe (Items items) g c n = tt
+safe_at safe (Script line events count) g c n =
+    (λ k. safe line (drop k events) g.0 (kept_before line k events g.1) (small_before line k events (n line events count refl)), c line events count refl)
+safe_at safe (Over ending) g c n = tt
 
 pub safe_throughout : SafeStories → (bytes : List ℕ) → SafeThroughout bytes
-safe_throughout safe bytes k = safe_at safe (stands start (take k (text_lines bytes))).stage (good_stands (take k (text_lines bytes)) start good_start) (clock_small bytes k)
+safe_throughout safe bytes k = safe_at safe (stands start (take k (text_lines bytes))).stage (good_stands (take k (text_lines bytes)) start good_start) (clock_small bytes k) (numbers_small bytes k)

@@ -17,7 +17,9 @@ use Rattle.definitions.specs.Control.{controls, greatest_known}
 use Rattle.definitions.specs.Steps.{story_of, taken_most, takes_from}
 use Rattle.definitions.specs.Trace.{trace, went}
 use Rattle.document_laws.specs.Whole.{said, behind_events, Admitted, IsDocument, IsDocumentWithoutScript, story_text, whole}
+use Rattle.document_laws.specs.Refused.{IsRefusedInScript, story_ended}
 use Rattle.document_laws.proofs.Whole.{document_gives, document_gives_nothing}
+use Rattle.document_laws.proofs.Refused.{refused_in_script}
 
 abbrev items : List Item
 items = Zone 1 ∷ []
@@ -71,3 +73,26 @@ no_lines = refl
 
 three_events : (whole items further).ending ≡ ends.Done 3
 three_events = refl
+
+-- a train that comes on and holds no authority is refused; what stands behind is not read
+abbrev broken : List ℕ
+broken = codes "zone 1\nscript\ntrain 7 60 2 20 eq\nenter 7\nzone 1\n"
+
+is_broken : IsRefusedInScript broken items events (ends.Premise 4 5)
+unfolding said text_lines text_of line_of form_of item_form event_form zone_line segment_line joint_line portal_line buffer_line silent_line script_line train_line entry_line enter_line word_at number_at digits_at field_at ranged_at rule_of finish_rule least builds Admitted behind_events went story_of first_told trains ever
+is_broken = record {
+  before = codes "zone 1\n" ∷ codes "script\n" ∷ codes "train 7 60 2 20 eq\n" ∷ [];
+  last = codes "enter 7\n";
+  behind = codes "zone 1\n" ∷ [];
+  lines = refl;
+  says_ = refl;
+  builds = refl;
+  one = omega arith;
+  finished = refl;
+  kept = (refl, tt);
+  refused = (refl, refl, refl, refl, omega arith);
+  within = omega arith;
+}
+
+broken_gives : trace broken ≡ story_ended items events (ends.Premise 4 5)
+broken_gives = refused_in_script broken items events (ends.Premise 4 5) is_broken

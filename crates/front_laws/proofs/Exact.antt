@@ -10,8 +10,9 @@ use Rattle.envelope.specs.declared.fronts.Fronts.{Fronts}
 use Rattle.envelope.specs.Fronts.{kept}
 use Rattle.envelope.proofs.Ranges.{IsRange}
 use Rattle.envelope.proofs.Rules.{are_ends}
-use Rattle.plain_state.specs.Zone.{least_kept, greatest_kept, narrowed}
+use Rattle.envelope.specs.Ends.{least_left, greatest_left, narrowed}
 use Rattle.definitions.specs.Account.{ruled}
+use Rattle.event_laws.proofs.Notions.{both}
 use Rattle.front_laws.proofs.Shifted.{least_above}
 use Rattle.front_laws.proofs.Ranges.{ruled_is, none_range}
 
@@ -47,10 +48,6 @@ module _ (end : ℕ) (keep fronts : ℕ → Bool) (lo hi : ℕ) (r : IsRange fro
       absurd (let n = none f.at (grind (arith, nat_tests)) (grind (arith, nat_tests)) in let z : true ≡ false = sym b.1 ∙ n in cc))
       (λ n. n) in
       none_range end keep fronts lo hi r o h no
-    where
-      both : (a b : Bool) → (a && b) ≡ true → (a ≡ true) × (b ≡ true)
-      both true b h = (refl, h)
-      both false b h = absurd cc
 
   -- a shrink taken
   pub cut_ruled : (x : ℕ) → keep ≡ (λ p. nat_le p x) → lo ≤ x → IsRange (ruled end keep fronts) lo (min hi x)
@@ -68,7 +65,7 @@ module _ (end : ℕ) (keep fronts : ℕ → Bool) (lo hi : ℕ) (r : IsRange fro
 
 -- a report
 abbrev pub report_ends : ℤ → ℕ → ℕ → Bool → ℕ → ℕ → Fronts
-report_ends est err moved integrity lo hi = narrowed (record { lo = lo; hi = hi; at = 0 }) (least_kept lo est err integrity) (greatest_kept hi est err moved)
+report_ends est err moved integrity lo hi = narrowed (record { lo = lo; hi = hi; at = 0 }) (least_left lo est err integrity) (greatest_left hi est err moved)
 
 pub record ReportEnds (end : ℕ) (est : ℤ) (err moved : ℕ) (integrity : Bool) (fronts : ℕ → Bool) (lo hi : ℕ) (left : Fronts) : Type 0 where
   pub is : IsRange (ruled end (kept (λ q. true) est err moved integrity) fronts) left.lo left.hi
@@ -81,31 +78,31 @@ module _ (est : ℤ) (err moved : ℕ) (integrity : Bool) (lo hi : ℕ) where
   keep = kept (λ q. true) est err moved integrity
 
   abbrev least : ℤ
-  least = least_kept lo est err integrity
+  least = least_left lo est err integrity
 
   abbrev most : ℤ
-  most = greatest_kept hi est err moved
+  most = greatest_left hi est err moved
 
   turned : (a b : ℤ) → le_z a b ≡ true → lt_z b a ≡ false
   turned a b h = grind (arith, ints)
 
-  greatest_below : (n : ℕ) → pos n ≡ greatest_kept hi est err moved → n ≤ hi
+  greatest_below : (n : ℕ) → pos n ≡ greatest_left hi est err moved → n ≤ hi
   greatest_below n e = grind (arith, ints)
 
   -- the places between the ends that are kept
-  keeps_between : (b : Bool) (p : ℕ) → le_z (least_kept lo est err b) (pos p) ≡ true → le_z (pos p) (greatest_kept hi est err moved) ≡ true → kept (λ q. true) est err moved b p ≡ true
+  keeps_between : (b : Bool) (p : ℕ) → le_z (least_left lo est err b) (pos p) ≡ true → le_z (pos p) (greatest_left hi est err moved) ≡ true → kept (λ q. true) est err moved b p ≡ true
   keeps_between true p x y = grind (arith, ints, nat_tests)
   keeps_between false p x y = grind (arith, ints, nat_tests)
 
-  fails_below : (b : Bool) (p : ℕ) → lo ≤ p → le_z (least_kept lo est err b) (pos p) ≡ false → kept (λ q. true) est err moved b p ≡ false
+  fails_below : (b : Bool) (p : ℕ) → lo ≤ p → le_z (least_left lo est err b) (pos p) ≡ false → kept (λ q. true) est err moved b p ≡ false
   fails_below true p x y = grind (arith, ints, nat_tests)
   fails_below false p x y = grind (arith, ints, nat_tests)
 
-  fails_above : (b : Bool) (p : ℕ) → p ≤ hi → le_z (pos p) (greatest_kept hi est err moved) ≡ false → kept (λ q. true) est err moved b p ≡ false
+  fails_above : (b : Bool) (p : ℕ) → p ≤ hi → le_z (pos p) (greatest_left hi est err moved) ≡ false → kept (λ q. true) est err moved b p ≡ false
   fails_above true p x y = grind (arith, ints, nat_tests)
   fails_above false p x y = grind (arith, ints, nat_tests)
 
-  none_between : (b : Bool) (p : ℕ) → lo ≤ p → p ≤ hi → le_z (least_kept lo est err b) (greatest_kept hi est err moved) ≡ false → kept (λ q. true) est err moved b p ≡ false
+  none_between : (b : Bool) (p : ℕ) → lo ≤ p → p ≤ hi → le_z (least_left lo est err b) (greatest_left hi est err moved) ≡ false → kept (λ q. true) est err moved b p ≡ false
   none_between true p x y n = grind (arith, ints, nat_tests)
   none_between false p x y n = grind (arith, ints, nat_tests)
 
@@ -116,7 +113,7 @@ module _ (est : ℤ) (err moved : ℕ) (integrity : Bool) (lo hi : ℕ) where
   lt_pos a b h = grind (arith, ints)
 
   pub report_ruled : (end : ℕ) (fronts : ℕ → Bool) → IsRange fronts lo hi → lo ≤ hi → hi ≤ end → ReportEnds end est err moved integrity fronts lo hi (report_ends est err moved integrity lo hi)
-  report_ruled end fronts r o h = by_test (le_z (least_kept lo est err integrity) (greatest_kept hi est err moved))
+  report_ruled end fronts r o h = by_test (le_z (least_left lo est err integrity) (greatest_left hi est err moved))
       (λ y.
       let e = are_ends lo est err integrity least most refl (turned least most y) in
       let a = least_above lo est err integrity (nat_abs least) e.least in

@@ -11,10 +11,10 @@ use Rattle.definitions.specs.Story.{Entry as Made, Story}
 use Rattle.definitions.specs.Control.{grants_entry, controls, asked_facts, known_facts}
 use Rattle.definitions.specs.Fronts.{possible_front, fronts_taken, fronts_behind, is_used, least_rear}
 use Rattle.definitions.specs.Fold.{account}
-use Rattle.plain_state.specs.Plain.{zone_id}
+use Rattle.definitions.specs.Zones.{zone_id}
 use Rattle.sound_laws.proofs.Sound.{FrontsAre, Controlled}
 use Rattle.front_laws.proofs.Front_numbers.{takes_by, grown_to, fronts_unused, fronts_left, fronts_kept, least_rear_is}
-use Rattle.front_laws.proofs.Entries.{fronts_granted, fronts_idle, fronts_acted}
+use Rattle.event_laws.proofs.Entries.{fronts_granted, fronts_idle, fronts_acted}
 use Rattle.front_laws.proofs.Front_entry.{known_long}
 
 -- a test that passes two ranges, neither of them empty, passes one

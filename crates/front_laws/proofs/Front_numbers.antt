@@ -14,8 +14,8 @@ use Rattle.definitions.specs.Story.{Story}
 use Rattle.definitions.specs.Control.{known_facts, now_of, now_with}
 use Rattle.definitions.specs.Longest.{longest_end, longest_route}
 use Rattle.definitions.specs.Fronts.{possible_front, grown_fronts, fronts_behind, reported, rear_of, is_used, least_rear, greatest_front}
-use Rattle.plain_state.specs.Plain.{zone_id}
-use Rattle.plain_state.specs.Zone.{least_kept, greatest_kept, narrowed}
+use Rattle.definitions.specs.Zones.{zone_id}
+use Rattle.envelope.specs.Ends.{least_left, greatest_left, narrowed}
 use Rattle.sound_laws.proofs.Sound.{FrontsAre}
 use Rattle.std.specs.Int.Signed.{le_z}
 use Rattle.std.specs.Prelude.{nat_eq}
@@ -83,11 +83,7 @@ takes_by t v _ = false
 unanswered : (line : Line) (t : ℕ) (s : Story) (m : Msg) (fronts : ℕ → Bool) → takes_by t (account line t s) m ≡ false
     → by_answer (seg_len line) (journey line t s) t (longest_end line t s) (account line t s) fronts m ≡ fronts
 unanswered line t s (msg.Answer u time number taken) fronts n = rw n refl
-unanswered line t s (msg.Report u time mark offset integrity) fronts n = refl
-unanswered line t s (msg.Time time u) fronts n = refl
-unanswered line t s (msg.EntryAsk u time long error speed equipped step) fronts n = refl
-unanswered line t s (msg.Ask u time asked to) fronts n = refl
-unanswered line t s (msg.Auth u number mark path) fronts n = refl
+unanswered line t s _ fronts n = refl
 
 -- a message that is no used report lets the fronts grow, and does nothing else to them
 pub fronts_unused : (line : Line) (t : ℕ) (s : Story) (m : Msg) (f : FrontsAre line t s)
@@ -111,8 +107,8 @@ moved_since line t s m time = farthest_move (known_facts (zone_id line) t s).spe
 abbrev pub fronts_left : Line → ℕ → Story → Msg → ℕ → ℕ → ℕ → ℕ → ℤ → Bool → Fronts
 fronts_left line t s m lo hi time mark offset integrity =
     narrowed (record { lo = lo; hi = grown_to line t s m hi; at = now_with (zone_id line) s m })
-    (least_kept lo (named_place line t s mark offset) (known_facts (zone_id line) t s).error integrity)
-    (greatest_kept (grown_to line t s m hi) (named_place line t s mark offset) (known_facts (zone_id line) t s).error (moved_since line t s m time))
+    (least_left lo (named_place line t s mark offset) (known_facts (zone_id line) t s).error integrity)
+    (greatest_left (grown_to line t s m hi) (named_place line t s mark offset) (known_facts (zone_id line) t s).error (moved_since line t s m time))
 
 pub record NarrowedTo (line : Line) (t : ℕ) (s : Story) (test : ℕ → Bool) (lo hi : ℕ) (left : Fronts) : Type 0 where
   pub numbers : Numbered line t s test left.lo left.hi
@@ -130,8 +126,8 @@ fronts_kept line t s u time mark offset integrity f h =
     let g = fronts_grown line t s m f in
     let n = report_ruled (named_place line t s mark offset) (known_facts z t s).error (moved_since line t s m time) integrity f.lo (grown_to line t s m f.hi) (longest_end line t s)
     (grown_fronts line z t s (possible_front line z t s) m) g.is g.ordered g.within in
-    let e = ends_same f.lo (grown_to line t s m f.hi) (now_with z s m) (least_kept f.lo (named_place line t s mark offset) (known_facts z t s).error integrity)
-    (greatest_kept (grown_to line t s m f.hi) (named_place line t s mark offset) (known_facts z t s).error (moved_since line t s m time)) in
+    let e = ends_same f.lo (grown_to line t s m f.hi) (now_with z s m) (least_left f.lo (named_place line t s mark offset) (known_facts z t s).error integrity)
+    (greatest_left (grown_to line t s m f.hi) (named_place line t s mark offset) (known_facts z t s).error (moved_since line t s m time)) in
     let e0 = e.0 in
     let e1 = e.1 in
     let o = n.ordered in

@@ -21,15 +21,14 @@ use Rattle.definitions.specs.Longest.{longest_end, longest_route}
 use Rattle.definitions.specs.Fronts.{possible_front, grown_fronts, fronts_behind, fronts_taken, rear_of, is_used}
 use Rattle.definitions.specs.Safe.{IsLineOfOneZone}
 use Rattle.definitions.specs.Steps.{effects}
-use Rattle.plain_state.specs.Plain.{zone_id}
-use Rattle.motion_laws.proofs.Notions.{both}
-use Rattle.motion_laws.proofs.Admitted.{Admitted}
-use Rattle.motion_laws.proofs.Moments.{moment_most, moment_zero}
-use Rattle.motion_laws.proofs.Stays.{long_stays, entered_stays}
+use Rattle.definitions.specs.Zones.{zone_id}
+use Rattle.event_laws.proofs.Notions.{both}
+use Rattle.event_laws.proofs.Admitted.{Admitted}
+use Rattle.event_laws.proofs.Moments.{moment_most, moment_zero}
+use Rattle.event_laws.proofs.Stays.{long_stays, entered_stays}
 use Rattle.motion_laws.proofs.Motion.{place_at, Motion, Timed, place_stays}
-use Rattle.motion_laws.proofs.Times.{effect_took}
 use Rattle.sound_laws.proofs.Sound.{step_begin, ReportIs, ReportTrue, FrontsAre, Controlled, Authorized, Sound}
-use Rattle.front_laws.proofs.Reported.{took_issued}
+use Rattle.event_laws.proofs.Does.{took_issued, effect_took}
 use Rattle.front_laws.proofs.Heads.{place_within, longest_mark}
 use Rattle.definitions.specs.World.{journey}
 use Rattle.definitions.specs.Account.{Account, ruled, shrink_end}
@@ -38,8 +37,8 @@ use Rattle.motion_laws.proofs.Motion.{place}
 use Rattle.front_laws.proofs.Ranges.{ruled_is}
 use Rattle.front_laws.proofs.Exact.{cut_ruled, true_kept}
 use Rattle.front_laws.proofs.Front_numbers.{takes_by, grown_to, fronts_grown, fronts_unused, named_place, moved_since, fronts_left, fronts_kept}
-use Rattle.front_laws.proofs.Entries.{fronts_idle, fronts_acted}
-use Rattle.front_laws.proofs.Front_moves.{now_idle, now_acted, controls_before}
+use Rattle.event_laws.proofs.Entries.{fronts_idle, fronts_acted}
+use Rattle.event_laws.proofs.Controls.{now_idle, now_acted, controls_before}
 use Rattle.front_laws.proofs.Front_entry.{known_speed, known_error, entry_fronts}
 
 -- an estimate from where a step begins
@@ -275,14 +274,11 @@ module _ (line : Line) (s : Story) (e : Event) (t : ℕ) (one : IsLineOfOneZone 
       by_test (is_used line z t s (possible_front line z t s) (msg.Report u time mark offset integrity))
       (λ y. fronts_cut from u time mark offset integrity took acts y)
       (λ no. fronts_grow from (msg.Report u time mark offset integrity) took acts no refl)
-  fronts_taking from (msg.Time time u) took acts = fronts_grow from (msg.Time time u) took acts refl refl
-  fronts_taking from (msg.EntryAsk u time long error speed equipped step) took acts = fronts_grow from (msg.EntryAsk u time long error speed equipped step) took acts refl refl
-  fronts_taking from (msg.Ask u time steps to) took acts = fronts_grow from (msg.Ask u time steps to) took acts refl refl
   fronts_taking from (msg.Answer u time number taken) took acts =
       by_test (takes_by t (account line t s) (msg.Answer u time number taken))
       (λ y. fronts_shrunk from (msg.Answer u time number taken) took acts refl y (λ fr. rw y refl))
       (λ n. fronts_grow from (msg.Answer u time number taken) took acts refl n)
-  fronts_taking from (msg.Auth u number mark path) took acts = fronts_grow from (msg.Auth u number mark path) took acts refl refl
+  fronts_taking from m took acts = fronts_grow from m took acts refl refl
 
   fronts_by : (o : Option (ℕ × Msg)) → (effects line s e).took ≡ o → nat_eq (effects line s e).actor (zone_id line) ≡ true → FrontsAre line t (effects line s e ∷ s)
   fronts_by (Some y) took acts = fronts_taking y.0 y.1 took acts

@@ -11,7 +11,7 @@ use Rattle.definitions.specs.Story.{Story}
 use Rattle.definitions.specs.World.{entered, head, long_of, journey}
 use Rattle.definitions.specs.Control.{controls}
 use Rattle.definitions.specs.Longest.{longest_end, longest_route}
-use Rattle.plain_state.specs.Plain.{zone_id}
+use Rattle.definitions.specs.Zones.{zone_id}
 use Rattle.motion_laws.proofs.Motion.{place}
 use Rattle.way_laws.proofs.Cut.{cut_some, cut_total, cut_front, cut_end}
 use Rattle.way_laws.proofs.Cuts.{before_last}

@@ -17,9 +17,9 @@ use Rattle.definitions.specs.Account.{ruled, takes_shrink}
 use Rattle.definitions.specs.Fold.{account, by_answer}
 use Rattle.definitions.specs.Longest.{longest_end}
 use Rattle.definitions.specs.Fronts.{grown_fronts, is_used, reported, fronts_behind, fronts_taken, possible_front}
-use Rattle.motion_laws.proofs.Notions.{both}
+use Rattle.event_laws.proofs.Notions.{both}
 use Rattle.way_laws.proofs.First.{first_is, first_at_most}
-use Rattle.front_laws.proofs.Entries.{fronts_acted, fronts_idle, fronts_uncontrolled}
+use Rattle.event_laws.proofs.Entries.{fronts_acted, fronts_idle, fronts_uncontrolled}
 
 abbrev pub AllFrom : (ℕ → Bool) → ℕ → Type 0
 AllFrom fronts lo = (f : ℕ) → fronts f ≡ true → lo ≤ f
@@ -56,21 +56,13 @@ ruled_from end lo keep fronts all g h =
 module _ (line : Line) (z t : ℕ) (s : Story) (lo : ℕ) where
   reported_from : (fronts : ℕ → Bool) (m : Msg) → AllFrom fronts lo → AllFrom (reported line z t s fronts m) lo
   reported_from fronts (msg.Report u time mark offset integrity) all = ruled_from (longest_end line t s) lo _ fronts all
-  reported_from fronts (msg.EntryAsk u time long error speed equipped step) all = all
-  reported_from fronts (msg.Ask u time steps to) all = all
-  reported_from fronts (msg.Time time u) all = all
-  reported_from fronts (msg.Answer u time number taken) all = all
-  reported_from fronts (msg.Auth u number mark path) all = all
+  reported_from fronts _ all = all
 
   answered_from : (fronts : ℕ → Bool) (m : Msg) → AllFrom fronts lo → AllFrom (by_answer (seg_len line) (journey line t s) t (longest_end line t s) (account line t s) fronts m) lo
   answered_from fronts (msg.Answer u time number taken) all = by_test (nat_eq u.0 t && takes_shrink number taken (account line t s))
       (λ y. rw y (ruled_from (longest_end line t s) lo _ fronts all))
       (λ n. rw n all)
-  answered_from fronts (msg.Report u time mark offset integrity) all = all
-  answered_from fronts (msg.EntryAsk u time long error speed equipped step) all = all
-  answered_from fronts (msg.Ask u time steps to) all = all
-  answered_from fronts (msg.Time time u) all = all
-  answered_from fronts (msg.Auth u number mark path) all = all
+  answered_from fronts _ all = all
 
   behind_from : (fronts : ℕ → Bool) (m : Msg) → AllFrom fronts lo → AllFrom (fronts_behind line z t s fronts m) lo
   behind_from fronts m all g h =

@@ -1,13 +1,10 @@
-pub mod Entries
 pub mod Ranges
 pub mod Shifted
 pub mod Exact
 pub mod Least_front
-pub mod Reported
 pub mod Heads
 pub mod Reports
 pub mod Front_numbers
-pub mod Front_moves
 pub mod Front_entry
 pub mod Front_step
 pub mod Front_ends

@@ -16,19 +16,14 @@ use Rattle.definitions.specs.Farther.{end_or_0}
 use Rattle.definitions.specs.Account.{Account, end_of, issues}
 use Rattle.definitions.specs.Fold.{account, issues_one, issues_all}
 use Rattle.definitions.specs.Longest.{longest_end, longest_route}
-use Rattle.plain_state.specs.Plain.{zone_id}
+use Rattle.definitions.specs.Zones.{zone_id}
 use Rattle.motion_laws.proofs.Motion.{Motion}
-use Rattle.motion_laws.proofs.Issued.{AllIn, in_all_weaker}
+use Rattle.event_laws.proofs.Issued.{AllIn, in_all_weaker, AuthHas, auth_without, NoAuth}
 use Rattle.sound_laws.proofs.Sound.{end_read, AuthorityIs, SomeIs, Controlled, Authorized}
 use Rattle.sound_laws.proofs.One_route.{newest_end, newest_route}
 use Rattle.sound_laws.proofs.First_steps.{FirstSteps, end_same, route_same, read_same, controlled_first}
-use Rattle.front_laws.proofs.Entries.{account_next, issued_is}
+use Rattle.event_laws.proofs.Entries.{account_next, issued_is}
 use Rattle.front_laws.proofs.Unshrunk.{Counts, account_taken, taken_counts}
-
--- a property of each authority of a train
-abbrev pub AuthHas : (Authority → Type 0) → ℕ → Msg → Type 0
-AuthHas Q t (msg.Auth u number mark path) = nat_eq u.0 t ≡ true → Q (record { mark = mark; path = path })
-AuthHas Q t _ = Unit {0}
 
 pub some_weaker : (P Q : Authority → Type 0) → ((a : Authority) → P a → Q a) → (x : Option Authority) → SomeIs P x → SomeIs Q x
 some_weaker P Q w None h = tt
@@ -47,11 +42,7 @@ module _ (len : Lengths) (steps : List DirSeg) (t n : ℕ) where
 
   one_stays : (m : Msg) (v : Account) → n ≤ v.issued → ((issues_one len steps t m v).reads n ≡ v.reads n) × (v.issued ≤ (issues_one len steps t m v).issued)
   one_stays (msg.Auth u number mark path) v h = by_test (nat_eq u.0 t) (λ y. rw y (issues_stays number (record { mark = mark; path = path }) v h)) (λ o. rw o (refl, omega arith))
-  one_stays (msg.Report u time mark offset integrity) v h = (refl, omega arith)
-  one_stays (msg.Time time u) v h = (refl, omega arith)
-  one_stays (msg.EntryAsk u time long error speed equipped step) v h = (refl, omega arith)
-  one_stays (msg.Ask u time asked to) v h = (refl, omega arith)
-  one_stays (msg.Answer u time number taken) v h = (refl, omega arith)
+  one_stays _ v h = (refl, omega arith)
 
   all_stay : (issued : List (ℕ × Msg)) (v : Account) → n ≤ v.issued → (issues_all len steps t issued v).reads n ≡ v.reads n
   unfolding issues_all
@@ -71,11 +62,7 @@ module _ (Q : Authority → Type 0) (len : Lengths) (steps : List DirSeg) (t : �
 
   one_has : (m : Msg) (v : Account) (n : ℕ) → AuthHas Q t m → SomeIs Q (v.reads n) → SomeIs Q ((issues_one len steps t m v).reads n)
   one_has (msg.Auth u number mark path) v n q h = by_test (nat_eq u.0 t) (λ y. rw y (issues_have number (record { mark = mark; path = path }) v n (q y) h)) (λ o. rw o h)
-  one_has (msg.Report u time mark offset integrity) v n q h = h
-  one_has (msg.Time time u) v n q h = h
-  one_has (msg.EntryAsk u time long error speed equipped step) v n q h = h
-  one_has (msg.Ask u time asked to) v n q h = h
-  one_has (msg.Answer u time number taken) v n q h = h
+  one_has _ v n q h = h
 
   all_have : (issued : List (ℕ × Msg)) (v : Account) (n : ℕ) → AllIn (AuthHas Q t) issued → SomeIs Q (v.reads n) → SomeIs Q ((issues_all len steps t issued v).reads n)
   unfolding AllIn issues_all
@@ -110,15 +97,6 @@ read_stays line t x s k first n le =
     let old = (account line t s).reads n in
     ap (λ (r : Option Authority). end_or_0 (seg_len line) (journey line t (x ∷ s)) r) (reads_stay line t x s k.unshrunk n le)
     ∙ read_same line t x s first old (some_weaker (AuthorityIs line t s) (λ a. a.mark ≤ length (journey line t s)) (λ a i. i.mark) old (k.reads n))
-
--- of another message than an authority of the train all holds
-pub auth_without : (Q : Authority → Type 0) (t : ℕ) (m : Msg) → is_auth t m ≡ false → AuthHas Q t m
-auth_without Q t (msg.Auth u number mark path) h = λ y. absurd (let c : true ≡ false = sym y ∙ h in cc)
-auth_without Q t (msg.EntryAsk u time long error speed equipped step) h = tt
-auth_without Q t (msg.Ask u time steps to) h = tt
-auth_without Q t (msg.Report u time mark offset integrity) h = tt
-auth_without Q t (msg.Time time u) h = tt
-auth_without Q t (msg.Answer u time number taken) h = tt
 
 -- The longest route of a controlled train goes on.
 module _ (line : Line) (t : ℕ) (s : Story) (x : Made) (motion : Motion t s) (k : Authorized line t s) (k2 : Authorized line t (x ∷ s)) (c : controls (zone_id line) t s ≡ true) (c2 : controls (zone_id line) t (x ∷ s) ≡ true)
@@ -160,7 +138,7 @@ module _ (line : Line) (t : ℕ) (s : Story) (x : Made) (motion : Motion t s) (k
       omega (arith, e, l)
 
   -- and ends where it did, where no authority of the train is issued
-  pub end_quiet : AllIn (λ m. is_auth t m ≡ false) x.issued → longest_end line t (x ∷ s) ≡ longest_end line t s
+  pub end_quiet : NoAuth t x.issued → longest_end line t (x ∷ s) ≡ longest_end line t s
   end_quiet quiet =
       let least = end_goes_on in
       let most = end_most (longest_end line t s) (omega arith)

@@ -7,17 +7,17 @@ use Rattle.std.specs.Int.Signed.{le_z, lt_z}
 use Rattle.track_points.proofs.Some.{by_test}
 use Rattle.envelope.specs.declared.fronts.Fronts.{Fronts}
 use Rattle.envelope.proofs.Rules.{are_ends}
-use Rattle.plain_state.specs.Zone.{least_kept, greatest_kept, narrowed}
+use Rattle.envelope.specs.Ends.{least_left, greatest_left, narrowed}
 
 -- the fronts that a report leaves, by its estimate
 abbrev pub narrowed_to : Fronts → ℤ → ℕ → ℕ → Bool → Fronts
-narrowed_to fronts est err moved integrity = narrowed fronts (least_kept fronts.lo est err integrity) (greatest_kept fronts.hi est err moved)
+narrowed_to fronts est err moved integrity = narrowed fronts (least_left fronts.lo est err integrity) (greatest_left fronts.hi est err moved)
 
-pub least_above : (lo : ℕ) (est : ℤ) (err : ℕ) (integrity : Bool) (n : ℕ) → pos n ≡ least_kept lo est err integrity → lo ≤ n
+pub least_above : (lo : ℕ) (est : ℤ) (err : ℕ) (integrity : Bool) (n : ℕ) → pos n ≡ least_left lo est err integrity → lo ≤ n
 least_above lo est err true n e = grind (arith, ints)
 least_above lo est err false n e = grind (arith, ints)
 
-least_shifted : (lo on : ℕ) (est : ℤ) (err : ℕ) (integrity : Bool) → on ≤ lo → least_kept (lo - on) (est -ℤ pos on) err integrity ≡ least_kept lo est err integrity -ℤ pos on
+least_shifted : (lo on : ℕ) (est : ℤ) (err : ℕ) (integrity : Bool) → on ≤ lo → least_left (lo - on) (est -ℤ pos on) err integrity ≡ least_left lo est err integrity -ℤ pos on
 least_shifted lo on est err true h = grind (arith, ints)
 least_shifted lo on est err false h = grind (arith, ints)
 
@@ -33,7 +33,7 @@ sum_shifted a on b c = ap (λ (n : ℤ). n +ℤ c) (one_shifted a on b) ∙ one_
 min_shifted : (a b on : ℤ) → int_min (a -ℤ on) (b -ℤ on) ≡ int_min a b -ℤ on
 min_shifted a b on = grind (arith, ints)
 
-greatest_shifted : (hi on : ℕ) (est : ℤ) (err moved : ℕ) → on ≤ hi → greatest_kept (hi - on) (est -ℤ pos on) err moved ≡ greatest_kept hi est err moved -ℤ pos on
+greatest_shifted : (hi on : ℕ) (est : ℤ) (err moved : ℕ) → on ≤ hi → greatest_left (hi - on) (est -ℤ pos on) err moved ≡ greatest_left hi est err moved -ℤ pos on
 greatest_shifted hi on est err moved h =
     ap (λ (n : ℤ). int_min n (est -ℤ pos on +ℤ pos err +ℤ pos moved)) (place_shifted hi on h)
     ∙ (ap (λ (n : ℤ). int_min (pos hi -ℤ pos on) n) (sum_shifted est (pos on) (pos err) (pos moved)) ∙ min_shifted (pos hi) (est +ℤ pos err +ℤ pos moved) (pos on))
@@ -48,8 +48,8 @@ pub narrowed_shifted : (fronts : Fronts) (on : ℕ) (est : ℤ) (err moved : ℕ
     → narrowed_to (record { lo = fronts.lo - on; hi = fronts.hi - on; at = fronts.at }) (est -ℤ pos on) err moved integrity
     ≡ (record { lo = (narrowed_to fronts est err moved integrity).lo - on; hi = (narrowed_to fronts est err moved integrity).hi - on; at = fronts.at })
 narrowed_shifted fronts on est err moved integrity h o =
-    let least = least_kept fronts.lo est err integrity in
-    let most = greatest_kept fronts.hi est err moved in
+    let least = least_left fronts.lo est err integrity in
+    let most = greatest_left fronts.hi est err moved in
     let a = least_shifted fronts.lo on est err integrity h in
     let b = greatest_shifted fronts.hi on est err moved (omega (arith, h, o)) in
     let c = order_shifted least most on in

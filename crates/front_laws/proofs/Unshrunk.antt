@@ -10,13 +10,13 @@ use Rattle.definitions.specs.declared.message.Msg.{Msg}
 use Rattle.definitions.specs.declared.message.Msg.TheVariants as msg
 use Rattle.definitions.specs.Track.{Line, seg_len}
 use Rattle.definitions.specs.Story.{Entry as Made, Story}
-use Rattle.definitions.specs.World.{Authority, authority_end, is_auth, journey}
+use Rattle.definitions.specs.World.{Authority, authority_end, journey}
 use Rattle.definitions.specs.Control.{grants_entry, controls, now_with, last_issued}
 use Rattle.definitions.specs.Account.{Account, end_of, least_of, issues, answered, passed, with_fronts, with_at}
-use Rattle.definitions.specs.Fold.{account, acts, heard, heard_some, counts, fronts_heard, issues_one, issues_all}
+use Rattle.definitions.specs.Fold.{account, acts, heard, heard_some, counts, fronts_heard, issues_all}
 use Rattle.definitions.specs.Longest.{counted}
-use Rattle.motion_laws.proofs.Issued.{AllIn}
-use Rattle.front_laws.proofs.Entries.{account_next, all_numbered, based_same, counted_heard, issued_is}
+use Rattle.event_laws.proofs.Issued.{NoAuth}
+use Rattle.event_laws.proofs.Entries.{account_next, all_numbered, based_same, counted_heard, issued_is, all_quiet}
 use Rattle.front_laws.proofs.Front_numbers.{takes_by}
 use Rattle.front_laws.proofs.Front_step.{takes_some}
 
@@ -45,20 +45,12 @@ answered_counted number taken v none = by_test (nat_lt v.counted number && nat_l
 
 counts_counts : (t : ℕ) (m : Msg) (v : Account) → v.shrink ≡ 0 → Counts v (counts t m v)
 counts_counts t (msg.Answer u time number taken) v none = by_test (nat_eq u.0 t) (λ y. rw y (answered_counts number taken v none)) (λ n. rw n (same_counts v none))
-counts_counts t (msg.Report u time mark offset integrity) v none = same_counts v none
-counts_counts t (msg.Time time u) v none = same_counts v none
-counts_counts t (msg.EntryAsk u time long error speed equipped step) v none = same_counts v none
-counts_counts t (msg.Ask u time asked to) v none = same_counts v none
-counts_counts t (msg.Auth u number mark path) v none = same_counts v none
+counts_counts t _ v none = same_counts v none
 
 -- no answer takes a shrink
 pub none_takes : (t : ℕ) (v : Account) (m : Msg) → v.shrink ≡ 0 → takes_by t v m ≡ false
 none_takes t v (msg.Answer u time number taken) none = grind (arith, nat_tests)
-none_takes t v (msg.Report u time mark offset integrity) none = refl
-none_takes t v (msg.Time time u) none = refl
-none_takes t v (msg.EntryAsk u time long error speed equipped step) none = refl
-none_takes t v (msg.Ask u time asked to) none = refl
-none_takes t v (msg.Auth u number mark path) none = refl
+none_takes t v _ none = refl
 
 pub none_taken : (t : ℕ) (v : Account) (took : Option (ℕ × Msg)) → v.shrink ≡ 0 → takes_some t v took ≡ false
 none_taken t v None none = refl
@@ -71,11 +63,7 @@ answers t _ = false
 
 uncounted : (t from : ℕ) (m : Msg) (v : Account) → answers t (Some (from, m)) ≡ false → counts t m v ≡ v
 uncounted t from (msg.Answer u time number taken) v h = rw h refl
-uncounted t from (msg.Report u time mark offset integrity) v h = refl
-uncounted t from (msg.Time time u) v h = refl
-uncounted t from (msg.EntryAsk u time long error speed equipped step) v h = refl
-uncounted t from (msg.Ask u time asked to) v h = refl
-uncounted t from (msg.Auth u number mark path) v h = refl
+uncounted t from _ v h = refl
 
 -- no shrink is passed by the least front
 unpassed : (len : Lengths) (steps : List DirSeg) (least : ℕ) (w : Account) → w.shrink ≡ 0 → passed len steps least w ≡ w
@@ -127,19 +115,6 @@ acts_counts len t e s steps v none = by_test (grants_entry e.actor t e)
 -- What is issued.
 
 module _ (len : Lengths) (steps : List DirSeg) (t : ℕ) where
-  one_quiet : (m : Msg) (v : Account) → is_auth t m ≡ false → issues_one len steps t m v ≡ v
-  one_quiet (msg.Auth u number mark path) v h = rw h refl
-  one_quiet (msg.Report u time mark offset integrity) v h = refl
-  one_quiet (msg.Time time u) v h = refl
-  one_quiet (msg.EntryAsk u time long error speed equipped step) v h = refl
-  one_quiet (msg.Ask u time asked to) v h = refl
-  one_quiet (msg.Answer u time number taken) v h = refl
-
-  all_quiet : (issued : List (ℕ × Msg)) (v : Account) → AllIn (λ m. is_auth t m ≡ false) issued → issues_all len steps t issued v ≡ v
-  unfolding AllIn issues_all
-  all_quiet [] v h = refl
-  all_quiet (x ∷ issued) v h = ap (λ (w : Account). issues_all len steps t issued w) (one_quiet x.1 v h.0) ∙ all_quiet issued v h.1
-
   all_one : (issued : List (ℕ × Msg)) (u : TrainId) (number : ℕ) (a : Authority) (v : Account) → issued ≡ (0, msg.Auth u number a.mark a.path) ∷ [] → nat_eq u.0 t ≡ true
       → issues_all len steps t issued v ≡ issues len steps number a v
   unfolding issues_all
@@ -194,7 +169,7 @@ module _ (line : Line) (t : ℕ) (x : Made) (s : Story) (none : (account line t 
       ∙ ap (λ (n : ℕ). if nat_lt v.counted number && nat_le number n then number else v.counted) (issued_is line t s)
 
   -- no authority of the train
-  pub account_quiet : AllIn (λ m. is_auth t m ≡ false) x.issued → account line t (x ∷ s) ≡ acts (seg_len line) t x s (journey line t s) (account line t s)
+  pub account_quiet : NoAuth t x.issued → account line t (x ∷ s) ≡ acts (seg_len line) t x s (journey line t s) (account line t s)
   account_quiet quiet = account_next line t x s ∙ all_quiet len (journey line t s) t x.issued account_taken quiet
 
   module _ (u : TrainId) (number : ℕ) (a : Authority) (issued : x.issued ≡ (0, msg.Auth u number a.mark a.path) ∷ []) (its : nat_eq u.0 t ≡ true) where

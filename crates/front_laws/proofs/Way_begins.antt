@@ -11,7 +11,7 @@ use Rattle.definitions.specs.Control.{controls, known_facts, now_of}
 use Rattle.definitions.specs.Longest.{longest_route}
 use Rattle.definitions.specs.Fronts.{least_rear}
 use Rattle.definitions.specs.Ways.{steps_behind}
-use Rattle.plain_state.specs.Plain.{zone_id}
+use Rattle.definitions.specs.Zones.{zone_id}
 use Rattle.way_laws.proofs.Lines.{both}
 use Rattle.way_laws.proofs.Track.{is_long, all_long, long_steps}
 use Rattle.way_laws.proofs.Between_places.{behind_take}

@@ -1,8 +1,7 @@
 -- The journey of a train is the track from the step of its first request for entry up to its head.
-use Rattle.std.proofs.Common.{◌≡◌, ℕ, ◌+◌, ◌<◌, ◌≤◌, List, [], ◌∷◌, ◌++◌, length, take, Option, Some, None, Bool, true, false, ◌||◌, refl, sym, ap, ◌∙◌, arith}
-use Rattle.std.proofs.lemmas.Bool.Decides.{nat_tests}
+use Rattle.std.proofs.Common.{◌≡◌, ℕ, ◌+◌, ◌<◌, ◌≤◌, List, [], ◌∷◌, ◌++◌, length, take, Option, Some, None, true, refl, sym, ap, ◌∙◌, arith}
 use Rattle.std.proofs.lemmas.List.{take-append-le}
-use Rattle.std.specs.Prelude.{nat_lt, is_some}
+use Rattle.std.specs.Prelude.{is_some}
 use Rattle.std.specs.List.{list_all}
 use Rattle.track_points.specs.declared.ids.DirSeg.{DirSeg}
 use Rattle.track_points.specs.Points.{total, steps_to}
@@ -12,19 +11,12 @@ use Rattle.definitions.specs.Rules.{is_line}
 use Rattle.definitions.specs.Premises.{on_line}
 use Rattle.definitions.specs.Ways.{chained}
 use Rattle.definitions.specs.Story.{Entry as Made, Story, first_told}
-use Rattle.definitions.specs.World.{entry_in, first_entry, enters, moved, head, goes_on, begun, journey}
+use Rattle.definitions.specs.World.{entry_in, first_entry, head, goes_on, begun, journey}
+use Rattle.event_laws.proofs.Still.{head_still}
 use Rattle.way_laws.proofs.Cut.{cut_first, cut_some, cut_front}
 use Rattle.way_laws.proofs.Cuts.{cut_again, cut_more, cut_cut}
 use Rattle.way_laws.proofs.Track.{track_some}
 use Rattle.journey_laws.proofs.Led.{led_track, led_first, led_on}
-
-neither : (a b : Bool) → (a || b) ≡ false → (a ≡ false) × (b ≡ false)
-neither true b h = absurd cc
-neither false b h = (refl, h)
-
-none_of : {A : Type 0} (x : Option A) → is_some x ≡ false → x ≡ None
-none_of None h = refl
-none_of (Some a) h = absurd cc
 
 some_of : {A : Type 0} (x : Option A) (a : A) → x ≡ Some a → is_some x ≡ true
 some_of x a h = rw h refl
@@ -36,27 +28,6 @@ begun_some : (x : Option DirSeg) (steps : List DirSeg) → 0 < length steps → 
 begun_some None steps h = refl
 begun_some (Some st) [] h = absurd (omega arith)
 begun_some (Some st) (a ∷ steps) h = refl
-
--- an event at which the journey does not go on leaves the head and the first request
-module _ (t : ℕ) (e : Made) (s : Story) (still : goes_on t e.event ≡ false) where
-  abbrev parts : (is_some (entry_in t e.event) ≡ false) × ((enters t e.event || nat_lt 0 (moved t e.event)) ≡ false)
-  parts = neither (is_some (entry_in t e.event)) (enters t e.event || nat_lt 0 (moved t e.event)) still
-
-  pub head_still : head t (e ∷ s) ≡ head t s
-  unfolding head
-  head_still =
-      let k = neither (enters t e.event) (nat_lt 0 (moved t e.event)) parts.1 in
-      let z = k.1 in
-      let m : moved t e.event ≡ 0 = grind (arith, nat_tests) in
-      rw (k.0, m) (omega arith)
-
-  entry_still : entry_in t e.event ≡ None
-  entry_still = none_of (entry_in t e.event) parts.0
-
--- nor the journey
-pub journey_still : (line : Line) (t : ℕ) (e : Made) (s : Story) → goes_on t e.event ≡ false → journey line t (e ∷ s) ≡ journey line t s
-unfolding journey
-journey_still line t e s still = rw still refl
 
 -- A journey is its own steps up to the head, and keeps its first steps as the head goes on.
 

@@ -26,7 +26,7 @@ same_dir Down Up h = absurd h
 same_number : (m n : ℕ) → nat_eq m n ≡ true → m ≡ n
 same_number m n h = grind (arith, nat_tests)
 
-same_end : (a e : End) → end_eq a e ≡ true → a ≡ e
+pub same_end : (a e : End) → end_eq a e ≡ true → a ≡ e
 same_end a e h =
     let s = same_number a.segment e.segment (and_left (nat_eq a.segment e.segment) (dir_eq a.dir e.dir) h) in
     let d = same_dir a.dir e.dir (and_right (nat_eq a.segment e.segment) (dir_eq a.dir e.dir) h) in
@@ -45,7 +45,7 @@ neither_end x y h k = grind arith
 joint_free : (before : List Item) (a b : End) → rule_of before (Joint a b) ≡ 0 → (list_any (uses a) before ≡ false) × (list_any (uses b) before ≡ false)
 joint_free before a b r = let f = (unbroken before (Joint a b) r).free in (grind arith, grind arith)
 
-used_once : (before : List Item) (i : Item) (e : End) → rule_of before i ≡ 0 → list_any (uses e) before ≡ true → uses e i ≡ false
+pub used_once : (before : List Item) (i : Item) (e : End) → rule_of before i ≡ 0 → list_any (uses e) before ≡ true → uses e i ≡ false
 used_once before (Zone z) e r used = refl
 used_once before (Segment s z len) e r used = refl
 used_once before (Joint a b) e r used =
@@ -67,10 +67,10 @@ no_joint (Portal a) e h = refl
 no_joint (Buffer a) e h = refl
 no_joint (Silent ms) e h = refl
 
-or_right : (a b : Bool) → b ≡ true → (a || b) ≡ true
+pub or_right : (a b : Bool) → b ≡ true → (a || b) ≡ true
 or_right a b h = grind arith
 
-still_used : (before : List Item) (i : Item) (e : End) → (list_any (uses e) before || uses e i) ≡ true → list_any (uses e) (before ++ i ∷ []) ≡ true
+pub still_used : (before : List Item) (i : Item) (e : End) → (list_any (uses e) before || uses e i) ≡ true → list_any (uses e) (before ++ i ∷ []) ≡ true
 still_used before i e h = rw (list_any-append (uses e) before (i ∷ [])) (one_of (list_any (uses e) before) (uses e i) h)
   where
     one_of : (x y : Bool) → (x || y) ≡ true → (x || (y || false)) ≡ true

@@ -1,3 +1,4 @@
 pub mod Valid
-mod Counting
 pub mod Following
+mod Once
+mod Ordering

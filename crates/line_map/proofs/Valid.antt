@@ -1,12 +1,11 @@
 -- What the rules give of every item of a line, and so of every segment and zone.
-use Rattle.std.proofs.Common.{◌≡◌, ℕ, ◌≤◌, ◌<◌, length, get_or, Bool, true, false, ◌&&◌, ◌||◌, if◌then◌else◌, List, [], ◌∷◌, ◌++◌, append_assoc, refl, ◌∙◌, arith, nat_eq}
+use Rattle.std.proofs.Common.{◌≡◌, ℕ, ◌≤◌, Bool, true, false, ◌&&◌, ◌||◌, List, [], ◌∷◌, ◌++◌, append_assoc, refl, ◌∙◌, arith, nat_eq}
+use Rattle.std.specs.Prelude.{Result, Ok, Err, OnOk, OnErr}
 use Rattle.std.specs.List.{list_all, list_any}
 use Rattle.std.proofs.lemmas.Bool.{both_ways}
 use Rattle.std.proofs.lemmas.Bool.Decides.{nat_tests}
 use Rattle.std.proofs.lemmas.List.{append-nil}
 use Rattle.std.proofs.lemmas.List.Folds.{list_any-append, list_all-append}
-use Rattle.std.proofs.lemmas.List.Elements.{All-get_or}
-use Rattle.std.proofs.lemmas.List.Sums.{AllPass-from_list_all}
 use Rattle.definitions.specs.declared.item.Item.{Item}
 use Rattle.definitions.specs.declared.item.Item.TheVariants.{Zone, Segment, Joint, Portal, Buffer, Silent}
 use Rattle.track_points.specs.declared.ids.DirSeg.{DirSeg}
@@ -44,10 +43,11 @@ builds_more before (i ∷ items) x b r =
     and_both _ _ (and_left _ _ b)
     (builds_more (before ++ i ∷ []) items x (and_right _ _ b) (rw (append_assoc before (i ∷ []) items) r))
 
-pub builds_either : (more : Bool) (items : List Item) (x : Item) → builds [] items ≡ true → rule_of items x ≡ 0
-    → builds [] (if more then items ++ x ∷ [] else items) ≡ true
-builds_either true items x b r = builds_more [] items x b r
-builds_either false items x b r = b
+-- the items after one more was wanted, whether or not there was memory for it
+pub builds_either : {T E : Type 0} (items new : Line) (x : Item) (r : Result T E) → builds [] items ≡ true → rule_of items x ≡ 0
+    → OnOk r (new ≡ items ++ x ∷ []) → OnErr r (new ≡ items) → builds [] new ≡ true
+builds_either items new x (Ok _) b k ok err = rw ok (builds_more [] items x b k)
+builds_either items new x (Err _) b k ok err = rw err b
 
 -- what the rules give of an item of a line
 abbrev pub fine : Line → Item → Bool
@@ -179,7 +179,7 @@ zone_ok line v z d =
     (range_first 1 16 z r, range_last 1 16 z r)
 
 -- the joints of a line name ids
-ids_fit : (line : Line) → is_line line ≡ true → (i : Item) → fine line i ≡ true → FitsIds i
+pub ids_fit : (line : Line) → is_line line ≡ true → (i : Item) → fine line i ≡ true → FitsIds i
 ids_fit line v (Zone z) f = tt
 ids_fit line v (Segment s z len) f = tt
 ids_fit line v (Joint a b) f = (
@@ -189,10 +189,6 @@ ids_fit line v (Joint a b) f = (
 ids_fit line v (Portal a) f = tt
 ids_fit line v (Buffer a) f = tt
 ids_fit line v (Silent ms) f = tt
-
-pub ids_at : (line : Line) → is_line line ≡ true → (k : ℕ) (d : Item) → k < length line → FitsIds (get_or line k d)
-ids_at line v k d h =
-    ids_fit line v (get_or line k d) (All-get_or (λ i. fine line i ≡ true) line k d h (AllPass-from_list_all (fine line) line (all_fine line v)))
 
 -- the segment of a portal is declared
 portal_in : (line items : Line) (e : End) → list_all (fine line) items ≡ true → list_any (is_portal e) items ≡ true → has_segment line e.segment ≡ true

@@ -1,11 +1,14 @@
 -- What is behind a step.
-use Rattle.std.specs.Prelude.{◌≡◌, ◌≤◌, ◌<◌, ⊤, ℕ, List, [], ◌∷◌, length, get_or, if◌then◌else◌, Option, Some, None}
+use Rattle.std.specs.Prelude.{◌≡◌, ◌≤◌, ⊤, [], ◌∷◌, Bool, true, false, if◌then◌else◌, Option, Some, None}
 use Rattle.track_points.specs.declared.ids.DirSeg.{DirSeg}
 use Rattle.definitions.specs.declared.item.End.{End}
 use Rattle.definitions.specs.declared.item.Item.{Item}
 use Rattle.definitions.specs.declared.item.Item.TheVariants.{Zone, Segment, Joint}
 use Rattle.definitions.specs.declared.item.Item.TheVariants as item
 use Rattle.definitions.specs.Track.{Line, end_eq, uses, flip, exit_of}
+use Rattle.line_index.specs.declared.ends.EndUse.{EndUse}
+use Rattle.line_index.specs.declared.ends.EndUse.TheVariants.{Free, Joined}
+use Rattle.line_index.specs.declared.ends.EndUse.TheVariants as used
 use Rattle.line_map.specs.declared.line.After.{After}
 use Rattle.line_map.specs.declared.line.After.TheVariants.{Plain, Portal, Buffer}
 
@@ -24,8 +27,29 @@ abbrev pub FitsIds : Item → Type 0
 FitsIds (Joint a b) = (a.segment ≤ 32767) × (b.segment ≤ 32767)
 FitsIds _ = ⊤
 
-abbrev pub AllFit : List Item → Type 0
-AllFit items = (k : ℕ) (d : Item) → k < length items → FitsIds (get_or items k d)
+abbrev pub FitsUse : EndUse → Type 0
+FitsUse (Joined e) = e.segment ≤ 32767
+FitsUse _ = ⊤
+
+-- what an end leads to, by what uses it
+abbrev pub after_use : EndUse → After
+after_use Free = Buffer
+after_use (Joined e) = Plain (step_in e)
+after_use used.Portal = Portal
+after_use used.Buffer = Buffer
+
+-- a joint uses an end, and its other end passes a test
+abbrev pub joins_where : (End → Bool) → EndUse → Bool
+joins_where test Free = false
+joins_where test (Joined e) = test e
+joins_where test used.Portal = false
+joins_where test used.Buffer = false
+
+abbrev pub is_portal_use : EndUse → Bool
+is_portal_use Free = false
+is_portal_use (Joined e) = false
+is_portal_use used.Portal = true
+is_portal_use used.Buffer = false
 
 -- what is behind a step: by the first item that uses its exit end. An end is used at most once (rule 6) and every end
 -- is used (rule 7), so in a valid line there is exactly one such item; where there is none, this says Buffer.

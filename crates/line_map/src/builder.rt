@@ -4,10 +4,10 @@ ghost use Rattle.std.specs.List.{list_any};
 ghost use Rattle.definitions.specs.Rules.{is_any_zone};
 ghost use Rattle.line_map.specs.Building.{Adds, Finishes};
 
-use crate::items::declares_a_zone;
 use crate::line::Line;
 use crate::rules::{breaks, finish_breaks};
 use definitions::item::Item;
+use line_index::LineIndex;
 use std::alloc::{AllocError, Global};
 use std::marker::Model;
 use thiserror::Error;
@@ -27,22 +27,27 @@ pub enum LineFault {
     Rule(u8),
 }
 
-/// The items so far, none of which broke a rule behind those before it.
+/// How many segments a line has at most.
+const SEGMENTS: usize = 512;
+
+/// The items so far, none of which broke a rule behind those before it, and room for the order of the segments.
 #[derive(Drop)]
 pub struct LineBuilder {
-    items: Vec<Item>,
+    index: LineIndex,
+    order: Vec<u16>,
 }
 
 impl Model for LineBuilder {
-    ghost use Rattle.std.specs.Prelude.{◌≡◌, List, [], true};
+    ghost use Rattle.std.specs.Prelude.{List, vec_capacity};
     ghost use Rattle.definitions.specs.declared.item.Item.{Item};
-    ghost use Rattle.definitions.specs.Rules.{builds};
 
     ghost Value = { List Item };
 
-    ghost view = { λ b. b.items.items };
+    ghost use Rattle.line_map.specs.Order.{Builds};
 
-    ghost invariant = { λ b. builds [] b.items.items ≡ true };
+    ghost view = { λ b. b.index };
+
+    ghost invariant = { λ b. Builds b.index b.order.items (vec_capacity b.order) };
 }
 
 impl LineBuilder {
@@ -50,16 +55,16 @@ impl LineBuilder {
     pub fn new(alloc: Global) -> Result<LineBuilder, AllocError>
         ensures { IfOk result (λ builder. builder ≡ []) }
     {
-        Ok(LineBuilder {
-            items: Vec::with_capacity(alloc, 64)?,
-        })
+        let index = LineIndex::new(alloc)?;
+        let order = Vec::with_capacity(alloc, SEGMENTS)?;
+        Ok(LineBuilder { index, order })
     }
 
     /// Whether a zone is declared so far.
     pub fn has_zone(&self) -> bool
         ensures { result ≡ list_any is_any_zone self.now }
     {
-        declares_a_zone(self.items.as_slice())
+        self.index.has_a_zone()
     }
 
     /// Adds an item behind the others. One that breaks a rule is refused with the least rule that it breaks; what is
@@ -67,11 +72,11 @@ impl LineBuilder {
     pub fn add(&mut self, item: &Item) -> Result<(), LineFault>
         ensures { Adds self.old item.now result self.new }
     {
-        let rule = breaks(self.items.as_slice(), item);
+        let rule = breaks(&self.index, item);
         if rule != 0 {
             return Err(LineFault::Rule(rule));
         }
-        match self.items.push(*item) {
+        match self.index.add(item) {
             Ok(()) => Ok(()),
             Err(_) => Err(LineFault::Memory),
         }
@@ -81,10 +86,10 @@ impl LineBuilder {
     pub fn finish(self) -> Result<Line, LineFault>
         ensures { Finishes self result }
     {
-        let rule = finish_breaks(self.items.as_slice());
+        let rule = finish_breaks(&self.index);
         if rule > 0 {
             return Err(LineFault::Rule(rule));
         }
-        Ok(Line::of(self.items))
+        Ok(Line::of(self.index, self.order))
     }
 }

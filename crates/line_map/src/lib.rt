@@ -5,7 +5,6 @@
 #![tactic(auto)]
 
 pub mod builder;
-mod items;
 pub mod line;
 mod order;
 mod rules;

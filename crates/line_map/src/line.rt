@@ -1,16 +1,13 @@
 //! A valid line, and what can be asked of it.
-ghost use Rattle.std.specs.Prelude.{◌≡◌, ◌≤◌, true, IfOk};
-ghost use Rattle.definitions.specs.Track.{has_zone, has_segment, seg_len, zone_of, follows, begins_at_portal, exit_of, entrance_of, next_step, silent_after};
+ghost use Rattle.std.specs.Prelude.{◌≡◌, ◌≤◌, [], true, vec_capacity, IfOk};
+ghost use Rattle.definitions.specs.Track.{end_eq, has_zone, has_segment, seg_len, zone_of, follows, begins_at_portal, exit_of, entrance_of, next_step, silent_after};
 ghost use Rattle.definitions.specs.Rules.{is_line};
 ghost use Rattle.line_map.specs.Order.{IsSegmentAt, IsZoneAt};
-ghost use Rattle.line_map.specs.Next.{after_of, after_end, after_item, step_in, FitsIds, AllFit, AfterIs};
+ghost use Rattle.line_map.specs.Next.{after_of, after_use, is_portal_use, joins_where, step_in, AfterIs, FitsUse};
 
-use crate::items::{
-    declares_segment, declares_zone, has_joint, has_portal, length_of, same_end, silent_at,
-    takes_end, turned, zone_at,
-};
-use crate::order::{segment_at, zone_number};
-use definitions::item::{End, Item};
+use crate::order::{ascending, zone_number};
+use definitions::item::End;
+use line_index::{EndUse, LineIndex, same_end, turned};
 use std::alloc::{AllocError, Global};
 use std::marker::Model;
 use track_points::{DirSeg, SegId, ZoneId};
@@ -26,22 +23,24 @@ pub enum After {
     Buffer,
 }
 
-/// A valid line. Only a `LineBuilder` makes one.
+/// A valid line: its items with their index, and its segments by ascending id. Only a `LineBuilder` makes one.
 #[derive(Drop)]
 pub struct Line {
-    items: Vec<Item>,
+    index: LineIndex,
+    order: Vec<u16>,
 }
 
 impl Model for Line {
-    ghost use Rattle.std.specs.Prelude.{◌≡◌, List, true};
+    ghost use Rattle.std.specs.Prelude.{List};
     ghost use Rattle.definitions.specs.declared.item.Item.{Item};
-    ghost use Rattle.definitions.specs.Rules.{is_line};
 
     ghost Value = { List Item };
 
-    ghost view = { λ l. l.items.items };
+    ghost use Rattle.line_map.specs.Order.{Stands};
 
-    ghost invariant = { λ l. is_line l.items.items ≡ true };
+    ghost view = { λ l. l.index };
+
+    ghost invariant = { λ l. Stands l.index l.order.items };
 }
 
 fn exit_end(step: DirSeg) -> End
@@ -73,71 +72,75 @@ fn step_at(e: End) -> DirSeg
     }
 }
 
-/// What an item that uses the end leads to.
-fn behind(item: &Item, e: End) -> After
-    requires { FitsIds item.now }
-    ensures { result ≡ after_item e item.now }
+/// What an end leads to, by what uses it.
+fn leads_to(used: EndUse) -> After
+    requires { FitsUse used }
+    ensures { result ≡ after_use used }
 {
-    match *item {
-        Item::Joint(a, b) => {
-            if same_end(a, e) {
-                After::Plain(step_at(b))
-            } else {
-                After::Plain(step_at(a))
-            }
-        }
-        Item::Portal(_) => After::Portal,
-        _ => After::Buffer,
+    match used {
+        EndUse::Joined(e) => After::Plain(step_at(e)),
+        EndUse::Portal => After::Portal,
+        EndUse::Free => After::Buffer,
+        EndUse::Buffer => After::Buffer,
     }
 }
 
-/// What the first item that uses the end leads to, a buffer where none does.
-#[tactic(auto, unfolding(crate::specs::Next::after_end))]
-fn first_behind(items: &[Item], e: End) -> After
-    requires { AllFit items.now }
-    ensures { result ≡ after_end items.now e }
+/// Whether a joint uses an end, and its other end is the one given.
+fn joins_with(used: EndUse, other: End) -> bool
+    ensures { result ≡ joins_where (λ e. end_eq e other) used }
 {
-    for item in items {
-        if takes_end(item, e) {
-            return behind(item, e);
-        }
+    match used {
+        EndUse::Joined(e) => same_end(e, other),
+        EndUse::Portal => false,
+        EndUse::Free => false,
+        EndUse::Buffer => false,
     }
-    After::Buffer
+}
+
+fn is_portal_use(used: EndUse) -> bool
+    ensures { result ≡ is_portal_use used }
+{
+    match used {
+        EndUse::Joined(_) => false,
+        EndUse::Portal => true,
+        EndUse::Free => false,
+        EndUse::Buffer => false,
+    }
 }
 
 impl Line {
-    /// The line of items that break no rule.
-    pub(crate) fn of(items: Vec<Item>) -> Line
-        requires { is_line items.items ≡ true }
-        ensures { result ≡ items.items }
+    /// The line of items that break no rule, in room for the order of its segments.
+    pub(crate) fn of(index: LineIndex, room: Vec<u16>) -> Line
+        requires valid { is_line index ≡ true }
+        requires empty { room.items ≡ [] }
+        requires room { 512 ≤ vec_capacity room }
+        ensures { result ≡ index }
     {
-        Line { items }
+        let order = ascending(&index, room);
+        Line { index, order }
     }
 
     /// The same line once more, in memory of its own.
     pub fn copy(&self, alloc: Global) -> Result<Line, AllocError>
         ensures { IfOk result (λ line. line ≡ self.now) }
     {
-        let items = self.items.as_slice();
-        let mut out: Vec<Item> = Vec::with_capacity(alloc, items.len())?;
-        for item in items {
-            out.push(*item)?;
-        }
-        Ok(Line { items: out })
+        let index = self.index.copy(alloc)?;
+        let order = Vec::from_slice(alloc, self.order.as_slice())?;
+        Ok(Line { index, order })
     }
 
     /// Whether the zone is declared.
     pub fn has_zone(&self, z: ZoneId) -> bool
         ensures { result ≡ has_zone self.now z.0 }
     {
-        declares_zone(self.items.as_slice(), z.0 as u64)
+        self.index.has_zone(z.0 as u64)
     }
 
     /// Whether the segment is declared.
     pub fn has_segment(&self, s: SegId) -> bool
         ensures { result ≡ has_segment self.now s.0 }
     {
-        declares_segment(self.items.as_slice(), s.0 as u64)
+        self.index.has_segment(s.0 as u64)
     }
 
     /// The length of a declared segment in mm.
@@ -147,7 +150,7 @@ impl Line {
         ensures some { 1 ≤ result }
         ensures most { result ≤ 10000000 }
     {
-        length_of(self.items.as_slice(), s.0 as u64) as u32
+        self.index.length_of(s.0 as u64) as u32
     }
 
     /// The zone of a declared segment.
@@ -155,14 +158,14 @@ impl Line {
         requires { has_segment self.now s.0 ≡ true }
         ensures { result.0 ≡ zone_of self.now s.0 }
     {
-        ZoneId(zone_at(self.items.as_slice(), s.0 as u64) as u8)
+        ZoneId(self.index.zone_of(s.0 as u64) as u8)
     }
 
     /// Whether the second step can follow the first.
     pub fn follows(&self, a: DirSeg, b: DirSeg) -> bool
         ensures { result ≡ follows self.now a b }
     {
-        has_joint(self.items.as_slice(), exit_end(a), entrance_end(b))
+        joins_with(self.index.use_of(exit_end(a)), entrance_end(b))
     }
 
     /// Whether the step goes inward from a portal.
@@ -170,14 +173,14 @@ impl Line {
         ensures begins { result ≡ begins_at_portal self.now step }
         ensures declared { result ≡ true → has_segment self.now step.seg.0 ≡ true }
     {
-        has_portal(self.items.as_slice(), entrance_end(step))
+        is_portal_use(self.index.use_of(entrance_end(step)))
     }
 
     /// How many ms without a used report make a train silent.
     pub fn silent(&self) -> u64
         ensures { result ≡ silent_after self.now }
     {
-        silent_at(self.items.as_slice())
+        self.index.silent_after()
     }
 
     /// What is behind the exit end of a step: each end of a line is used by exactly one joint, portal or buffer.
@@ -186,23 +189,25 @@ impl Line {
         ensures is { result ≡ after_of self.now at }
         ensures next { AfterIs (next_step self.now at) result }
     {
-        first_behind(self.items.as_slice(), exit_end(at))
+        leads_to(self.index.use_of(exit_end(at)))
     }
 
     /// The k-th declared zone by ascending id, from 0; `None` where there are not more than k.
     pub fn zone(&self, k: usize) -> Option<ZoneId>
         ensures { IsZoneAt self.now k result }
     {
-        zone_number(self.items.as_slice(), k)
+        zone_number(&self.index, k)
     }
 
     /// The k-th declared segment by ascending id, from 0; `None` where there are not more than k.
     pub fn segment(&self, k: usize) -> Option<SegId>
         ensures { IsSegmentAt self.now k result }
     {
-        match segment_at(self.items.as_slice(), k) {
-            Some(s) => Some(SegId(s as u16)),
-            None => None,
+        let order = self.order.as_slice();
+        if k < order.len() {
+            Some(SegId(order[k]))
+        } else {
+            None
         }
     }
 }

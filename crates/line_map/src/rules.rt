@@ -1,14 +1,12 @@
 //! The rules of a line, by number.
-ghost use Rattle.std.specs.Prelude.{◌≡◌};
+ghost use Rattle.std.specs.Prelude.{◌≡◌, [], true, nat_eq};
 ghost use Rattle.std.specs.List.{list_any};
-ghost use Rattle.definitions.specs.Track.{ranged, flip};
-ghost use Rattle.definitions.specs.Rules.{rule_of, is_open, joins_within, is_bare, finish_rule};
+ghost use Rattle.definitions.specs.Track.{ranged, flip, zone_of};
+ghost use Rattle.line_map.specs.Next.{joins_where};
+ghost use Rattle.definitions.specs.Rules.{builds, rule_of, is_open, joins_within, is_bare, has_open, has_bare, finish_rule};
 
-use crate::items::{
-    declares_a_zone, declares_segment, declares_silence, declares_zone, is_used, opposite,
-    same_end, segment_count, zone_at,
-};
 use definitions::item::{End, Item};
+use line_index::{EndUse, LineIndex, opposite, same_end};
 use track_points::Dir;
 
 fn in_range(lo: u64, hi: u64, n: u64) -> bool
@@ -18,10 +16,10 @@ fn in_range(lo: u64, hi: u64, n: u64) -> bool
 }
 
 #[tactic(auto, unfolding(definitions::specs::Rules::rule_of, definitions::specs::Numbers::least))]
-fn zone_breaks(items: &[Item], z: u64) -> u8
-    ensures { result ≡ rule_of items.now (Item.Zone z) }
+fn zone_breaks(index: &LineIndex, z: u64) -> u8
+    ensures { result ≡ rule_of index.now (Item.Zone z) }
 {
-    if declares_zone(items, z) {
+    if index.has_zone(z) {
         2
     } else if in_range(1, 16, z) {
         0
@@ -31,16 +29,16 @@ fn zone_breaks(items: &[Item], z: u64) -> u8
 }
 
 #[tactic(auto, unfolding(definitions::specs::Rules::rule_of, definitions::specs::Numbers::least))]
-fn segment_breaks(items: &[Item], s: u64, z: u64, len: u64) -> u8
-    ensures { result ≡ rule_of items.now (Item.Segment s z len) }
+fn segment_breaks(index: &LineIndex, s: u64, z: u64, len: u64) -> u8
+    ensures { result ≡ rule_of index.now (Item.Segment s z len) }
 {
-    if declares_segment(items, s) {
+    if index.has_segment(s) {
         2
-    } else if !declares_zone(items, z) {
+    } else if !index.has_zone(z) {
         3
     } else if !(in_range(1, 32767, s) && in_range(1, 10_000_000, len)) {
         4
-    } else if segment_count(items) < 512 {
+    } else if index.segment_count() < 512 {
         0
     } else {
         5
@@ -48,13 +46,13 @@ fn segment_breaks(items: &[Item], s: u64, z: u64, len: u64) -> u8
 }
 
 #[tactic(auto, unfolding(definitions::specs::Rules::rule_of, definitions::specs::Numbers::least))]
-fn end_breaks(items: &[Item], e: End) -> u8
-    ensures portal { result ≡ rule_of items.now (Item.Portal e) }
-    ensures buffer { result ≡ rule_of items.now (Item.Buffer e) }
+fn end_breaks(index: &LineIndex, e: End) -> u8
+    ensures portal { result ≡ rule_of index.now (Item.Portal e) }
+    ensures buffer { result ≡ rule_of index.now (Item.Buffer e) }
 {
-    if !declares_segment(items, e.segment) {
+    if !index.has_segment(e.segment) {
         3
-    } else if is_used(items, e) {
+    } else if index.is_used(e) {
         6
     } else {
         0
@@ -62,12 +60,12 @@ fn end_breaks(items: &[Item], e: End) -> u8
 }
 
 #[tactic(auto, unfolding(definitions::specs::Rules::rule_of, definitions::specs::Numbers::least))]
-fn joint_breaks(items: &[Item], a: End, b: End) -> u8
-    ensures { result ≡ rule_of items.now (Item.Joint a b) }
+fn joint_breaks(index: &LineIndex, a: End, b: End) -> u8
+    ensures { result ≡ rule_of index.now (Item.Joint a b) }
 {
-    if !(declares_segment(items, a.segment) && declares_segment(items, b.segment)) {
+    if !(index.has_segment(a.segment) && index.has_segment(b.segment)) {
         3
-    } else if is_used(items, a) || is_used(items, b) || same_end(a, b) {
+    } else if index.is_used(a) || index.is_used(b) || same_end(a, b) {
         6
     } else if a.segment == b.segment {
         8
@@ -77,10 +75,10 @@ fn joint_breaks(items: &[Item], a: End, b: End) -> u8
 }
 
 #[tactic(auto, unfolding(definitions::specs::Rules::rule_of, definitions::specs::Numbers::least))]
-fn silent_breaks(items: &[Item], ms: u64) -> u8
-    ensures { result ≡ rule_of items.now (Item.Silent ms) }
+fn silent_breaks(index: &LineIndex, ms: u64) -> u8
+    ensures { result ≡ rule_of index.now (Item.Silent ms) }
 {
-    if declares_silence(items) {
+    if index.has_silence() {
         2
     } else if in_range(1, 3_600_000, ms) {
         0
@@ -90,93 +88,91 @@ fn silent_breaks(items: &[Item], ms: u64) -> u8
 }
 
 /// The least rule that an item breaks behind these items, 0 for none.
-pub fn breaks(items: &[Item], item: &Item) -> u8
-    ensures { result ≡ rule_of items.now item.now }
+pub fn breaks(index: &LineIndex, item: &Item) -> u8
+    ensures { result ≡ rule_of index.now item.now }
 {
     match *item {
-        Item::Zone(z) => zone_breaks(items, z),
-        Item::Segment(s, z, len) => segment_breaks(items, s, z, len),
-        Item::Joint(a, b) => joint_breaks(items, a, b),
-        Item::Portal(a) => end_breaks(items, a),
-        Item::Buffer(a) => end_breaks(items, a),
-        Item::Silent(ms) => silent_breaks(items, ms),
+        Item::Zone(z) => zone_breaks(index, z),
+        Item::Segment(s, z, len) => segment_breaks(index, s, z, len),
+        Item::Joint(a, b) => joint_breaks(index, a, b),
+        Item::Portal(a) => end_breaks(index, a),
+        Item::Buffer(a) => end_breaks(index, a),
+        Item::Silent(ms) => silent_breaks(index, ms),
     }
 }
 
-fn has_open_end(items: &[Item], item: &Item) -> bool
-    ensures { result ≡ is_open items.now item.now }
+fn has_open_end(index: &LineIndex, item: &Item) -> bool
+    ensures { result ≡ is_open index.now item.now }
 {
     match *item {
         Item::Segment(s, _, _) => {
-            !(is_used(
-                items,
-                End {
-                    segment: s,
-                    dir: Dir::Up,
-                },
-            ) && is_used(
-                items,
-                End {
-                    segment: s,
-                    dir: Dir::Down,
-                },
-            ))
+            !(index.is_used(End {
+                segment: s,
+                dir: Dir::Up,
+            }) && index.is_used(End {
+                segment: s,
+                dir: Dir::Down,
+            }))
         }
         _ => false,
     }
 }
 
-/// Whether the item joins the end with a segment of the zone.
-fn joins_in_zone(items: &[Item], z: u64, e: End, item: &Item) -> bool
-    ensures { result ≡ joins_within items.now z e item.now }
+/// Whether what uses an end is a joint with a segment of the zone.
+fn joins_zone(index: &LineIndex, z: u64, used: EndUse) -> bool
+    ensures { result ≡ joins_where (λ e. nat_eq (zone_of index.now e.segment) z) used }
 {
-    match *item {
-        Item::Joint(a, b) => {
-            (same_end(a, e) && zone_at(items, b.segment) == z)
-                || (same_end(b, e) && zone_at(items, a.segment) == z)
-        }
-        _ => false,
+    match used {
+        EndUse::Joined(other) => index.zone_of(other.segment) == z,
+        EndUse::Free => false,
+        EndUse::Portal => false,
+        EndUse::Buffer => false,
     }
 }
 
-fn goes_on_within(items: &[Item], z: u64, e: End, scanned: &[Item]) -> bool
-    ensures { result ≡ list_any (joins_within items.now z e) scanned.now }
+/// Whether a joint leads from the end to a segment of the zone.
+fn goes_on_within(index: &LineIndex, z: u64, e: End) -> bool
+    requires { builds [] index.now ≡ true }
+    ensures { result ≡ list_any (joins_within index.now z e) index.now }
 {
-    scanned.iter().any(|item| joins_in_zone(items, z, e, item))
+    joins_zone(index, z, index.use_of(e))
 }
 
 /// Whether the item is a portal behind which no segment of the same zone follows.
-fn is_bare_portal(items: &[Item], item: &Item) -> bool
-    ensures { result ≡ is_bare items.now item.now }
+fn is_bare_portal(index: &LineIndex, item: &Item) -> bool
+    requires { builds [] index.now ≡ true }
+    ensures { result ≡ is_bare index.now item.now }
 {
     match *item {
-        Item::Portal(e) => !goes_on_within(items, zone_at(items, e.segment), opposite(e), items),
+        Item::Portal(e) => !goes_on_within(index, index.zone_of(e.segment), opposite(e)),
         _ => false,
     }
 }
 
-fn has_an_open_end(items: &[Item], scanned: &[Item]) -> bool
-    ensures { result ≡ list_any (is_open items.now) scanned.now }
+fn has_an_open_end(index: &LineIndex) -> bool
+    ensures { result ≡ has_open index.now }
 {
-    scanned.iter().any(|item| has_open_end(items, item))
+    index.items().iter().any(|item| has_open_end(index, item))
 }
 
-fn has_a_bare_portal(items: &[Item], scanned: &[Item]) -> bool
-    ensures { result ≡ list_any (is_bare items.now) scanned.now }
+fn has_a_bare_portal(index: &LineIndex) -> bool
+    requires { builds [] index.now ≡ true }
+    ensures { result ≡ has_bare index.now }
 {
-    scanned.iter().any(|item| is_bare_portal(items, item))
+    index.items().iter().any(|item| is_bare_portal(index, item))
 }
 
-/// The least rule that the finished line breaks, 0 for none.
+/// The least rule that the finished line breaks, 0 for none: one pass over its items.
 #[tactic(auto, unfolding(definitions::specs::Rules::finish_rule, definitions::specs::Numbers::least))]
-pub fn finish_breaks(items: &[Item]) -> u8
-    ensures { result ≡ finish_rule items.now }
+pub fn finish_breaks(index: &LineIndex) -> u8
+    requires { builds [] index.now ≡ true }
+    ensures { result ≡ finish_rule index.now }
 {
-    if !declares_a_zone(items) {
+    if !index.has_a_zone() {
         1
-    } else if has_an_open_end(items, items) {
+    } else if has_an_open_end(index) {
         7
-    } else if has_a_bare_portal(items, items) {
+    } else if has_a_bare_portal(index) {
         12
     } else {
         0

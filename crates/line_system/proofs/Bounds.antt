@@ -3,7 +3,7 @@ use Rattle.std.proofs.Common.{◌≡◌, ℕ, ◌*◌, ◌≤◌, List, [], ◌�
 use Rattle.std.specs.Prelude.{slice_get, is_some, nat_eq}
 use Rattle.std.proofs.lemmas.Bool.Decides.{nat_tests}
 use Rattle.definitions.specs.declared.event.Event.{Event}
-use Rattle.definitions.specs.declared.event.Event.TheVariants.{Train, Entry, Enter, Ask, Step, Report, Time, Take, Deliver}
+use Rattle.definitions.specs.declared.event.Event.TheVariants.{Step}
 use Rattle.definitions.specs.declared.message.Msg.{Msg}
 use Rattle.definitions.specs.declared.message.Msg.TheVariants as msg
 use Rattle.definitions.specs.Track.{Line}
@@ -12,23 +12,16 @@ use Rattle.definitions.specs.World.{Facts, facts_or, facts_of, is_declared, long
 use Rattle.definitions.specs.Premises.{built}
 use Rattle.definitions.specs.Steps.{effects, story_of}
 use Rattle.definitions.specs.Safe.{Kept}
-use Rattle.motion_laws.proofs.Admitted.{admitted}
-use Rattle.motion_laws.proofs.Issued.{issued_all}
-use Rattle.motion_laws.proofs.Moments.{clock_next}
-use Rattle.motion_laws.proofs.Moves.{effect_event}
+use Rattle.event_laws.proofs.Admitted.{admitted}
+use Rattle.event_laws.proofs.Issued.{issued_all}
+use Rattle.event_laws.proofs.Moments.{clock_next}
+use Rattle.event_laws.proofs.Does.{effect_event}
 use Rattle.sound_laws.proofs.Sound.{Sound, EntryIs, RequestTrue}
 use Rattle.zone_state.specs.Zone.{InRange}
 
 elapsed_most : (line : Line) (s : Story) (e : Event) → built line s e ≡ true → elapsed e ≤ 60000
-elapsed_most line s (Train t long error speed kind) h = omega arith
-elapsed_most line s (Entry t step) h = omega arith
-elapsed_most line s (Enter t) h = omega arith
-elapsed_most line s (Ask t z steps to) h = omega arith
 elapsed_most line s (Step ms moves) h = grind (arith, nat_tests)
-elapsed_most line s (Report t z step offset whole) h = omega arith
-elapsed_most line s (Time z t) h = omega arith
-elapsed_most line s (Take to from number) h = omega arith
-elapsed_most line s (Deliver to) h = omega arith
+elapsed_most line s _ h = omega arith
 
 -- the clock rises by at most 60,000 ms with each event
 pub clock_most : (line : Line) (es : List Event) → Kept line es → clock (story_of line es) ≤ 60000 * length es
@@ -55,8 +48,4 @@ in_range line s from to k (msg.EntryAsk u time long error speed equipped step) s
     let f = long_is u.0 s (record { long = long; error = error; speed = speed }) is.facts in
     let some = (sound u.0).authorized.long_some f.0 in
     omega arith
-in_range line s from to k (msg.Report u time mark offset integrity) sound h = tt
-in_range line s from to k (msg.Time time u) sound h = tt
-in_range line s from to k (msg.Ask u time steps limit) sound h = tt
-in_range line s from to k (msg.Answer u time number taken) sound h = tt
-in_range line s from to k (msg.Auth u number mark path) sound h = tt
+in_range line s from to k _ sound h = tt

@@ -8,7 +8,8 @@ use Rattle.definitions.specs.Track.{Line, is_actor}
 use Rattle.definitions.specs.Premises.{built, too_many, premise_of, admits}
 use Rattle.definitions.specs.Steps.{effects, story_of, takes_from, deliveries}
 use Rattle.definitions.specs.Trace.{Went, went}
-use Rattle.document_laws.proofs.Delivered.{both, AllAdmitted, delivery_admitted}
+use Rattle.event_laws.proofs.Notions.{both}
+use Rattle.document_laws.proofs.Delivered.{AllAdmitted, delivery_admitted}
 use Rattle.line_system.specs.History.{History}
 
 abbrev as_went : List Event → List Outcome → Went

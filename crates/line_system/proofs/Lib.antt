@@ -5,3 +5,4 @@ pub mod Ordinals
 pub mod Bounds
 pub mod Story
 pub mod Steps
+pub mod Shows

@@ -3,16 +3,16 @@ use Rattle.std.proofs.Common.{◌≡◌, ℕ, ◌≤◌, ◌∷◌, Bool, true, 
 use Rattle.std.proofs.lemmas.Bool.Decides.{nat_tests}
 use Rattle.track_points.proofs.Some.{by_test}
 use Rattle.definitions.specs.declared.event.Event.{Event}
-use Rattle.definitions.specs.declared.event.Event.TheVariants.{Train, Entry, Enter, Ask, Step, Report, Time, Take, Deliver}
+use Rattle.definitions.specs.declared.event.Event.TheVariants.{Take}
 use Rattle.definitions.specs.Track.{Line, is_actor}
 use Rattle.definitions.specs.Story.{Story}
 use Rattle.definitions.specs.Premises.{built}
 use Rattle.definitions.specs.Steps.{effects, taken_by, taken_most}
 use Rattle.definitions.specs.Safe.{IsLineOfOneZone}
-use Rattle.plain_state.specs.Plain.{zone_id}
-use Rattle.motion_laws.proofs.Moves.{effect_event}
+use Rattle.definitions.specs.Zones.{zone_id}
+use Rattle.event_laws.proofs.Does.{effect_event}
 use Rattle.sound_laws.proofs.One_zone.{zone_only}
-use Rattle.document_laws.proofs.Delivered.{both}
+use Rattle.event_laws.proofs.Notions.{both}
 use Rattle.line_system.specs.State.{Taken, taken_with, taken_behind}
 
 actor_is : (line : Line) (a : ℕ) → IsLineOfOneZone line → is_actor line a ≡ true → nat_eq a 0 ≡ false → a ≡ zone_id line
@@ -56,16 +56,9 @@ none_more n m h = omega arith
 pub taken_next : (line : Line) (s : Story) (e : Event) (u : Taken) → IsLineOfOneZone line → 1 ≤ zone_id line → built line s e ≡ true
     → u.by_zone ≡ taken_most (zone_id line) 0 s → u.by_world ≡ taken_most 0 (zone_id line) s
     → ((taken_behind e u).by_zone ≡ taken_most (zone_id line) 0 (effects line s e ∷ s)) × ((taken_behind e u).by_world ≡ taken_most 0 (zone_id line) (effects line s e ∷ s))
-taken_next line s (Train t long error speed kind) u l positive h zone world = (none_more _ _ zone ∙ sym (most_next line (zone_id line) 0 s (Train t long error speed kind)), none_more _ _ world ∙ sym (most_next line 0 (zone_id line) s (Train t long error speed kind)))
-taken_next line s (Entry t step) u l positive h zone world = (none_more _ _ zone ∙ sym (most_next line (zone_id line) 0 s (Entry t step)), none_more _ _ world ∙ sym (most_next line 0 (zone_id line) s (Entry t step)))
-taken_next line s (Enter t) u l positive h zone world = (none_more _ _ zone ∙ sym (most_next line (zone_id line) 0 s (Enter t)), none_more _ _ world ∙ sym (most_next line 0 (zone_id line) s (Enter t)))
-taken_next line s (Ask t z steps to) u l positive h zone world = (none_more _ _ zone ∙ sym (most_next line (zone_id line) 0 s (Ask t z steps to)), none_more _ _ world ∙ sym (most_next line 0 (zone_id line) s (Ask t z steps to)))
-taken_next line s (Step ms moves) u l positive h zone world = (none_more _ _ zone ∙ sym (most_next line (zone_id line) 0 s (Step ms moves)), none_more _ _ world ∙ sym (most_next line 0 (zone_id line) s (Step ms moves)))
-taken_next line s (Report t z step offset whole) u l positive h zone world = (none_more _ _ zone ∙ sym (most_next line (zone_id line) 0 s (Report t z step offset whole)), none_more _ _ world ∙ sym (most_next line 0 (zone_id line) s (Report t z step offset whole)))
-taken_next line s (Time z t) u l positive h zone world = (none_more _ _ zone ∙ sym (most_next line (zone_id line) 0 s (Time z t)), none_more _ _ world ∙ sym (most_next line 0 (zone_id line) s (Time z t)))
-taken_next line s (Deliver to) u l positive h zone world = (none_more _ _ zone ∙ sym (most_next line (zone_id line) 0 s (Deliver to)), none_more _ _ world ∙ sym (most_next line 0 (zone_id line) s (Deliver to)))
 taken_next line s (Take to from number) u l positive h zone world =
     let k = takes_between line to from number u l positive h in (
       k.0 ∙ (ap (λ (n : ℕ). max (taken_by (zone_id line) 0 (Take to from number)) n) zone ∙ sym (most_next line (zone_id line) 0 s (Take to from number))),
       k.1 ∙ (ap (λ (n : ℕ). max (taken_by 0 (zone_id line) (Take to from number)) n) world ∙ sym (most_next line 0 (zone_id line) s (Take to from number))),
     )
+taken_next line s e u l positive h zone world = (none_more _ _ zone ∙ sym (most_next line (zone_id line) 0 s e), none_more _ _ world ∙ sym (most_next line 0 (zone_id line) s e))

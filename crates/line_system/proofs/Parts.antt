@@ -3,7 +3,7 @@ use Rattle.std.proofs.Common.{◌≡◌, ℕ, zero, suc, List, ◌++◌, true, f
 use Rattle.std.specs.Prelude.{nat_eq, slice_get}
 use Rattle.std.proofs.lemmas.Bool.Decides.{nat_tests}
 use Rattle.definitions.specs.declared.event.Event.{Event}
-use Rattle.definitions.specs.declared.event.Event.TheVariants.{Train, Entry, Enter, Ask, Step, Report, Time, Take, Deliver}
+use Rattle.definitions.specs.declared.event.Event.TheVariants.{Take}
 use Rattle.definitions.specs.declared.message.Msg.{Msg}
 use Rattle.definitions.specs.Track.{Line, is_actor}
 use Rattle.definitions.specs.Story.{Story, sent, to_actor}
@@ -12,9 +12,10 @@ use Rattle.definitions.specs.Premises.{built}
 use Rattle.definitions.specs.Safe.{IsLineOfOneZone}
 use Rattle.plain_state.specs.World.{PlainWorld, find_train, world_take_effect, world_take_next, world_event_effect, world_event_next}
 use Rattle.plain_state.specs.Zone.{PlainZone, zone_take_effect, zone_take_next}
-use Rattle.plain_state.specs.Plain.{Plain, zone_id, is_link, by_world, by_zone, taken_next, plain_next}
+use Rattle.definitions.specs.Zones.{zone_id}
+use Rattle.plain_state.specs.Plain.{Plain, is_link, by_world, by_zone, taken_next, plain_next}
 use Rattle.plain_state.specs.Relation.{ZoneLinked, Linked}
-use Rattle.document_laws.proofs.Delivered.{both}
+use Rattle.event_laws.proofs.Notions.{both}
 use Rattle.link_laws.proofs.One_zone.{zone_positive, actor_zone, link_to_zone, link_to_world, the_zone, each_zone}
 use Rattle.line_system.specs.State.{Parts, links_of, plain_of, world_moved, zone_moved, parts_taken, parts_next}
 
@@ -104,11 +105,4 @@ module _ (line : Line) (s : Story) (one : IsLineOfOneZone line) (k : Parts) (id 
   parts_linked before (Take to from number) h linked =
       let act = (both (is_actor line to) (is_actor line from) (both (not (nat_eq to from)) (is_actor line to && is_actor line from) h).1).0 in
       taken_linked to from (slice_get (links_of k from to) (number - 1)) act linked
-  parts_linked before (Train t long error speed kind) h linked = event_linked (Train t long error speed kind) linked
-  parts_linked before (Entry t step) h linked = event_linked (Entry t step) linked
-  parts_linked before (Enter t) h linked = event_linked (Enter t) linked
-  parts_linked before (Ask t z steps to) h linked = event_linked (Ask t z steps to) linked
-  parts_linked before (Step ms moves) h linked = event_linked (Step ms moves) linked
-  parts_linked before (Report t z step offset whole) h linked = event_linked (Report t z step offset whole) linked
-  parts_linked before (Time z t) h linked = event_linked (Time z t) linked
-  parts_linked before (Deliver to) h linked = event_linked (Deliver to) linked
+  parts_linked before e h linked = event_linked e linked

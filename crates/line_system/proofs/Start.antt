@@ -10,7 +10,8 @@ use Rattle.definitions.specs.Numbers.{least}
 use Rattle.definitions.specs.Rules.{is_any_zone, is_line, builds, finish_rule}
 use Rattle.definitions.specs.Safe.{Kept}
 use Rattle.definitions.specs.Steps.{story_of, taken_most}
-use Rattle.plain_state.specs.Plain.{zone_id, world_start, zone_start, plain_start}
+use Rattle.definitions.specs.Zones.{zone_id}
+use Rattle.plain_state.specs.Plain.{world_start, zone_start, plain_start}
 use Rattle.zone_state.specs.Zone.{ZoneKept, IsZoneOn}
 use Rattle.world_sim.specs.World.{AllOn}
 use Rattle.line_system.specs.State.{Taken, Parts, taken_start}

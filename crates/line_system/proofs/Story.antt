@@ -5,7 +5,7 @@ use Rattle.std.proofs.Math.Dec.{eqb-suc-zero}
 use Rattle.std.proofs.lemmas.List.{reverse-append, length-reverse}
 use Rattle.std.proofs.lemmas.Bool.Decides.{nat_tests}
 use Rattle.definitions.specs.declared.event.Event.{Event}
-use Rattle.definitions.specs.declared.event.Event.TheVariants.{Train, Entry, Enter, Ask, Step, Report, Time, Take, Deliver}
+use Rattle.definitions.specs.declared.event.Event.TheVariants.{Train, Step, Take, Deliver}
 use Rattle.definitions.specs.declared.message.Msg.{Msg}
 use Rattle.definitions.specs.declared.outcome.Outcome.{Outcome}
 use Rattle.definitions.specs.Track.{Line, has_zone, is_actor}
@@ -14,7 +14,8 @@ use Rattle.definitions.specs.Safe.{IsLineOfOneZone, Kept}
 use Rattle.definitions.specs.Trace.{went, stands_for}
 use Rattle.definitions.specs.Premises.{built, too_many, premise_of, admits}
 use Rattle.definitions.specs.Steps.{effects, story_of, taken_most, takes_from, deliveries}
-use Rattle.plain_state.specs.Plain.{Plain, zone_id, plain_effect}
+use Rattle.definitions.specs.Zones.{zone_id}
+use Rattle.plain_state.specs.Plain.{Plain, plain_effect}
 use Rattle.plain_state.specs.Admits.{plain_built, plain_too_many, plain_premise}
 use Rattle.world_sim.specs.World.{StepFits, IsWorldOn}
 use Rattle.zone_state.specs.Zone.{ZoneKept, IsZoneOn}
@@ -70,13 +71,7 @@ as_history line es = record { line = line; events = es }
 step_fits : (line : Line) (p : Plain) (e : Event) (n : ℕ) → plain_built line p e ≡ true → plain_too_many p e ≡ false → p.world.clock ≤ 60000 * n → n < 100000000 → StepFits p.world e
 step_fits line p (Train t long error speed kind) n b m c few = (grind (arith, nat_tests), grind (arith, nat_tests))
 step_fits line p (Step ms moves) n b m c few = let most : ms ≤ 60000 = grind (arith, nat_tests) in omega arith
-step_fits line p (Entry t step) n b m c few = tt
-step_fits line p (Enter t) n b m c few = tt
-step_fits line p (Ask t z steps to) n b m c few = tt
-step_fits line p (Report t z step offset whole) n b m c few = tt
-step_fits line p (Time z t) n b m c few = tt
-step_fits line p (Take to from number) n b m c few = tt
-step_fits line p (Deliver to) n b m c few = tt
+step_fits line p _ n b m c few = tt
 
 message_in_range : (line : Line) (s : Story) (from to k : ℕ) (r : Option Msg) → ((t : ℕ) → Sound line t s) → slice_get (sent from to s) k ≡ r → TakenInRange r
 message_in_range line s from to k None sound h = tt
@@ -86,14 +81,7 @@ message_in_range line s from to k (Some m) sound h = in_range line s from to k m
 event_in_range : (line : Line) (s : Story) (p : Plain) (e : Event) → Linked line s p → ((t : ℕ) → Sound line t s) → built line s e ≡ true → EventInRange p e
 event_in_range line s p (Take to from number) k sound h =
     message_in_range line s from to (number - 1) (slice_get (p.links from to) (number - 1)) sound (ap (λ (ms : List Msg). slice_get ms (number - 1)) (sym (k.links from to h)))
-event_in_range line s p (Train t long error speed kind) k sound h = tt
-event_in_range line s p (Step ms moves) k sound h = tt
-event_in_range line s p (Entry t step) k sound h = tt
-event_in_range line s p (Enter t) k sound h = tt
-event_in_range line s p (Ask t z steps to) k sound h = tt
-event_in_range line s p (Report t z step offset whole) k sound h = tt
-event_in_range line s p (Time z t) k sound h = tt
-event_in_range line s p (Deliver to) k sound h = tt
+event_in_range line s p _ k sound h = tt
 
 module _ (h : History) (line : Line) (xs : List Event) (p : Parts) (u : Taken) (z : ZoneKept) (e : Event) (g : Goes h line xs p u z e) where
   few_now : length (reverse xs) < 100000000
@@ -196,15 +184,8 @@ due_is h line xs p u z to from taken sent view k act is =
 
 -- An event that is no delivery stands for itself.
 stands_alone : (line : Line) (s : Story) (e : Event) → ((to : ℕ) → e ≡ Deliver to → ⊥) → stands_for line s e ≡ e ∷ []
-stands_alone line s (Train _ _ _ _ _) other = refl
-stands_alone line s (Entry _ _) other = refl
-stands_alone line s (Enter _) other = refl
-stands_alone line s (Ask _ _ _ _) other = refl
-stands_alone line s (Step _ _) other = refl
-stands_alone line s (Report _ _ _ _ _) other = refl
-stands_alone line s (Time _ _) other = refl
-stands_alone line s (Take _ _ _) other = refl
 stands_alone line s (Deliver to) other = absurd (other to refl)
+stands_alone line s _ other = refl
 
 went_one : (line : Line) (es : List Event) (e : Event) → went line es (e ∷ []) ≡ record { events = e ∷ es; lines = (effects line (story_of line es) e).lines ++ [] }
 unfolding went

@@ -4,7 +4,7 @@ use Rattle.definitions.specs.declared.event.Event.{Event}
 use Rattle.definitions.specs.Track.{Line}
 use Rattle.definitions.specs.Safe.{IsLineOfOneZone, Kept}
 use Rattle.definitions.specs.Steps.{story_of, taken_most}
-use Rattle.plain_state.specs.Plain.{zone_id}
+use Rattle.definitions.specs.Zones.{zone_id}
 use Rattle.plain_state.specs.Relation.{Linked}
 use Rattle.zone_state.specs.Zone.{ZoneKept, IsZoneOn}
 use Rattle.world_sim.specs.World.{IsWorldOn}

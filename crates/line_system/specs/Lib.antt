@@ -2,3 +2,4 @@ pub mod State
 pub mod History
 pub mod Kept
 pub mod System
+pub mod Shows

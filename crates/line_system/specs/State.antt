@@ -9,7 +9,7 @@ use Rattle.definitions.specs.Steps.{Effect}
 use Rattle.plain_state.specs.World.{PlainWorld, world_take_effect, world_take_next, world_event_effect, world_event_next}
 use Rattle.plain_state.specs.Zone.{PlainZone, zone_take_effect, zone_take_next}
 use Rattle.plain_state.specs.Plain.{Plain}
-use Rattle.zone_state.specs.Zone.{plain_zone, InRange}
+use Rattle.zone_state.specs.Zone.{InRange}
 use Rattle.line_system.specs.declared.state.State.{State}
 
 -- what the program keeps of a line of one zone
@@ -20,7 +20,7 @@ pub record Parts : Type 0 where
   pub to_world : List Msg
 
 abbrev pub parts : State → Parts
-parts s = record { world = s.world; zone = plain_zone s.zone; to_zone = s.to_zone.items; to_world = s.to_world.items }
+parts s = record { world = s.world; zone = s.zone.plain; to_zone = s.to_zone.items; to_world = s.to_world.items }
 
 abbrev pub links_of : Parts → ℕ → ℕ → List Msg
 links_of k from to =

@@ -121,6 +121,20 @@ impl State {
         })
     }
 
+    /// The world.
+    pub fn world(&self) -> &World
+        ensures { result.now ≡ self.now.world }
+    {
+        &self.world
+    }
+
+    /// The zone.
+    pub fn zone(&self) -> &Zone
+        ensures { result.now ≡ self.now.zone }
+    {
+        &self.zone
+    }
+
     /// The messages that went out on the link from an actor to another.
     fn link(&self, from: u8, to: u8) -> &[Msg]
         ensures { result.now ≡ (plain self.now).links from to }

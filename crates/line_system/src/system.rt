@@ -1,13 +1,14 @@
 //! The system of a line: the history of its script, and what that leaves.
-ghost use Rattle.std.specs.Prelude.{◌≡◌, ◌≤◌, ◌++◌, ◌∷◌, [], true, false, count_by, length, IfOk, OnOk};
+ghost use Rattle.std.specs.Prelude.{◌≡◌, ◌≤◌, ◌++◌, ◌∷◌, [], true, false, count_by, is_some, length, reverse, IfOk, IfSome, OnOk};
 ghost use Rattle.definitions.specs.Rules.{is_line, is_any_zone};
 ghost use Rattle.definitions.specs.Premises.{built, too_many, premise_of};
-ghost use Rattle.definitions.specs.Track.{is_actor};
+ghost use Rattle.definitions.specs.Track.{is_actor, has_zone};
 ghost use Rattle.definitions.specs.Steps.{nothing, effects, story_of, deliveries};
 ghost use Rattle.definitions.specs.Trace.{went, stands_for};
-ghost use Rattle.plain_state.specs.Plain.{zone_id};
+ghost use Rattle.definitions.specs.Zones.{zone_id};
 ghost use Rattle.line_system.specs.History.{History};
 ghost use Rattle.line_system.specs.System.{Answers};
+ghost use Rattle.line_system.specs.Shows.{ShowsNotions, ShowsWorld};
 
 use crate::state::State;
 use definitions::event::Event;
@@ -17,6 +18,8 @@ use msg_codec::Outs;
 use std::alloc::{AllocError, Global};
 use std::marker::Model;
 use track_points::ZoneId;
+use world_sim::World;
+use zone_state::Zone;
 
 /// The zone of a line of one zone.
 #[tactic(auto, using(crate::proofs::Start::zone_at, crate::proofs::Start::no_zone_at))]
@@ -95,6 +98,39 @@ impl System {
             events: Vec::with_capacity(alloc, 64)?,
             state,
         })
+    }
+
+    /// Its line.
+    pub fn line(&self) -> &Line
+        ensures { result.now ≡ self.now.line }
+    {
+        &self.line
+    }
+
+    /// The events of its history, the oldest first.
+    pub fn events(&self) -> &[Event]
+        ensures { self.now.events ≡ reverse result.now }
+    {
+        self.events.as_slice()
+    }
+
+    /// The world, as its history tells of it.
+    pub fn world(&self) -> &World
+        ensures { ShowsWorld self.now.line (story_of self.now.line self.now.events) result.now }
+    {
+        self.state.world()
+    }
+
+    /// A zone of its line; none where the line has no zone of this number. What it shows is what the history tells.
+    pub fn zone(&self, z: ZoneId) -> Option<&Zone>
+        ensures there { is_some result ≡ has_zone self.now.line z.0 }
+        ensures shows { IfSome result (λ y. ShowsNotions self.now.line (story_of self.now.line self.now.events) z.0 y.now) }
+    {
+        if self.line.has_zone(z) {
+            Some(self.state.zone())
+        } else {
+            None
+        }
     }
 
     /// Whether an event names what is declared, and declares what is not, in a form that is built.

@@ -10,7 +10,7 @@ use Rattle.track_points.specs.Points.{step_eq}
 use Rattle.track_points.proofs.Some.{by_test}
 use Rattle.envelope.specs.Fronts.{farthest_move}
 use Rattle.definitions.specs.declared.event.Event.{Event}
-use Rattle.definitions.specs.declared.event.Event.TheVariants.{Train, Entry, Enter, Ask, Step, Report, Time, Take, Deliver}
+use Rattle.definitions.specs.declared.event.Event.TheVariants.{Train, Entry, Enter, Ask, Step, Report, Time, Take}
 use Rattle.definitions.specs.declared.message.Msg.{Msg}
 use Rattle.definitions.specs.Track.{Line, ranged, has_zone, begins_at_portal, last_step}
 use Rattle.definitions.specs.Numbers.{least}
@@ -43,19 +43,11 @@ module _ (line : Line) (s : Story) (p : Plain) (k : Linked line s p) (sound : (t
   built_now (Step ms moves) = ap (λ (f : TrainId × ℕ → Bool). ranged 1 60000 ms && (ascending 0 moves.items && list_all f moves.items)) (fun_ext known_now)
   built_now (Report u z step offset whole) = ap (λ (b : Bool). b && (has_zone line z.0 && on_line line step)) (sym (declared_is line s p k sound u.0))
   built_now (Time z u) = ap (λ (b : Bool). has_zone line z.0 && (nat_eq u.0 0 || b)) (sym (declared_is line s p k sound u.0))
-  built_now (Take to from number) = refl
-  built_now (Deliver to) = refl
+  built_now _ = refl
 
   pub too_many_now : (e : Event) → too_many s e ≡ plain_too_many p e
   too_many_now (Train u long error speed kind) = ap (λ (n : ℕ). nat_le 256 n) (sym k.count)
-  too_many_now (Entry u step) = refl
-  too_many_now (Enter u) = refl
-  too_many_now (Ask u z steps to) = refl
-  too_many_now (Step ms moves) = refl
-  too_many_now (Report u z step offset whole) = refl
-  too_many_now (Time z u) = refl
-  too_many_now (Take to from number) = refl
-  too_many_now (Deliver to) = refl
+  too_many_now _ = refl
 
   head_reported : (t : ℕ) (step : DirSeg) (offset : ℤ)
       → (entered t s && (step_eq step (last_step (journey line t s)) && off_by (error_of t s) (head_offset line t s) offset)) ≡ reports_head (error_of t s) step offset (head_of line t s)
@@ -68,28 +60,14 @@ module _ (line : Line) (s : Story) (p : Plain) (k : Linked line s p) (sound : (t
       head_reported u.0 step offset
       ∙ (ap (λ (n : ℕ). reports_head n step offset (head_of line u.0 s)) (sym (error_is line s p k sound u.0))
       ∙ ap (λ (h : Option Head). reports_head (error_found (find_train u.0 p.world.trains)) step offset h) (sym (head_is line s p k sound u.0)))
-  reports_now (Train u long error speed kind) = refl
-  reports_now (Entry u step) = refl
-  reports_now (Enter u) = refl
-  reports_now (Ask u z steps to) = refl
-  reports_now (Step ms moves) = refl
-  reports_now (Time z u) = refl
-  reports_now (Take to from number) = refl
-  reports_now (Deliver to) = refl
+  reports_now _ = refl
 
   moves_now : (e : Event) → moves_rightly s e ≡ world_moves p.world e
   moves_now (Step ms moves) = ap (λ (f : TrainId × ℕ → Bool). list_all f moves.items) (fun_ext (can ms))
     where
       can : (ms : ℕ) (x : TrainId × ℕ) → can_move ms s x ≡ can_move_found ms p.world.trains x
       can ms x = ap (λ (v : ℕ). nat_le x.1 (farthest_move v ms)) (sym (speed_is line s p k sound x.0.0))
-  moves_now (Report u z step offset whole) = refl
-  moves_now (Train u long error speed kind) = refl
-  moves_now (Entry u step) = refl
-  moves_now (Enter u) = refl
-  moves_now (Ask u z steps to) = refl
-  moves_now (Time z u) = refl
-  moves_now (Take to from number) = refl
-  moves_now (Deliver to) = refl
+  moves_now _ = refl
 
   may_now : (x : TrainId × ℕ) → may_move line s x ≡ may_move_found p.world.trains x
   may_now x =
@@ -105,39 +83,19 @@ module _ (line : Line) (s : Story) (p : Plain) (k : Linked line s p) (sound : (t
 
   stops_now : (e : Event) → stops_rightly line s e ≡ world_stops p.world e
   stops_now (Step ms moves) = ap (λ (f : TrainId × ℕ → Bool). list_all f moves.items) (fun_ext may_now)
-  stops_now (Report u z step offset whole) = refl
-  stops_now (Train u long error speed kind) = refl
-  stops_now (Entry u step) = refl
-  stops_now (Enter u) = refl
-  stops_now (Ask u z steps to) = refl
-  stops_now (Time z u) = refl
-  stops_now (Take to from number) = refl
-  stops_now (Deliver to) = refl
+  stops_now _ = refl
 
   enters_now : (e : Event) → enters_rightly s e ≡ world_enters p.world e
   enters_now (Entry u step) = ap (λ (x : Option DirSeg). same_portal step x) (sym (entry_is line s p k sound u.0))
   enters_now (Enter u) =
       ap (λ (b : Bool). b && not (entered u.0 s)) (sym (sender_some (entry_authority u.0 s)) ∙ ap (λ (x : Option ℕ). is_some x) (sym (authority_is line s p k sound u.0)))
       ∙ ap (λ (b : Bool). is_some (authority_found (find_train u.0 p.world.trains)) && not b) (sym (on_is line s p k sound u.0))
-  enters_now (Train u long error speed kind) = refl
-  enters_now (Ask u z steps to) = refl
-  enters_now (Step ms moves) = refl
-  enters_now (Report u z step offset whole) = refl
-  enters_now (Time z u) = refl
-  enters_now (Take to from number) = refl
-  enters_now (Deliver to) = refl
+  enters_now _ = refl
 
   module _ (l : IsLineOfOneZone line) where
     takes_now : (e : Event) → built line s e ≡ true → takes_rightly s e ≡ plain_takes p e
     takes_now (Take to from number) h = ap (λ (xs : List Msg). nat_lt 0 number && nat_le number (length xs)) (sym (k.links from to h))
-    takes_now (Train u long error speed kind) h = refl
-    takes_now (Entry u step) h = refl
-    takes_now (Enter u) h = refl
-    takes_now (Ask u z steps to) h = refl
-    takes_now (Step ms moves) h = refl
-    takes_now (Report u z step offset whole) h = refl
-    takes_now (Time z u) h = refl
-    takes_now (Deliver to) h = refl
+    takes_now _ h = refl
 
     pub premise_now : (e : Event) → built line s e ≡ true → premise_of line s e ≡ plain_premise p e
     unfolding least

@@ -24,20 +24,20 @@ use Rattle.definitions.specs.Fronts.{report_time, silent_by}
 use Rattle.definitions.specs.Limit.{Reach, further, asked_way, path_of, reach_from, barring, limit}
 use Rattle.definitions.specs.Steps.{Effect, grant, path_to}
 use Rattle.definitions.specs.Safe.{IsLineOfOneZone}
-use Rattle.plain_state.specs.ZoneTrain.{ZoneTrain}
+use Rattle.plain_state.specs.declared.Controlled.{Controlled}
 use Rattle.plain_state.specs.Zone.{find_way, change_way, lengthened, grown_train}
-use Rattle.plain_state.specs.Plain.{Plain, zone_id}
+use Rattle.definitions.specs.Zones.{zone_id}
+use Rattle.plain_state.specs.Plain.{Plain}
 use Rattle.plain_state.specs.Relation.{zone_train, Linked}
-use Rattle.motion_laws.proofs.Issued.{AllIn, AllIssued}
+use Rattle.event_laws.proofs.Issued.{AllIn, AllIssued, NoAuth}
 use Rattle.way_laws.proofs.Reach.{reach_granted}
 use Rattle.way_laws.proofs.Grown.{grown_end}
-use Rattle.way_laws.proofs.Between_places.{between_some, between_ends, between_end, between_within}
-use Rattle.motion_laws.proofs.Controls.{controls_same}
-use Rattle.journey_laws.proofs.Journey.{journey_still}
+use Rattle.way_laws.proofs.Between_places.{between_some, between_end, between_within}
+use Rattle.event_laws.proofs.Controls.{controls_same, known_same}
+use Rattle.event_laws.proofs.Still.{journey_still}
 use Rattle.sound_laws.proofs.Sound.{end_read, AuthIs, Sound}
 use Rattle.sound_laws.proofs.One_route.{path_parts, route_reaches, last_end, longest_on}
 use Rattle.front_laws.proofs.Route_goes_on.{route_goes_on}
-use Rattle.front_laws.proofs.Front_moves.{known_same}
 use Rattle.front_laws.proofs.Front_numbers.{grown_to}
 use Rattle.front_laws.proofs.Front_ends.{ends_grown}
 use Rattle.front_laws.proofs.Unshrunk.{counted_unanswered}
@@ -49,10 +49,10 @@ use Rattle.link_laws.proofs.Way_marks.{way_number}
 use Rattle.link_laws.proofs.Heeded.{way_steps}
 use Rattle.link_laws.proofs.Kept_train.{kept_train}
 use Rattle.link_laws.proofs.Longer.{kept_lengthened, route_kept, route_steps}
-use Rattle.link_laws.proofs.Unissued.{NoAuth, end_same}
+use Rattle.link_laws.proofs.Unissued.{end_same}
 use Rattle.link_laws.proofs.Zone_moves.{zone_made, zone_heads, ZoneMoves}
 use Rattle.link_laws.proofs.Zone_behind.{grown_is, now_is, acts, controlled_still, report_unused, steps_same, zone_silent}
-use Rattle.motion_laws.proofs.Known_trains.{known_still}
+use Rattle.event_laws.proofs.Known_trains.{known_still}
 
 module _ (line : Line) (z number : ℕ) (u : TrainId) (time : ℕ) (steps : ArrayVec DirSeg) (to : ℕ) (s : Story) (one : IsLineOfOneZone line) (zone : suc z ≡ zone_id line) (sound : (t : ℕ) → Sound line t s)
     (lines : List Outcome) where
@@ -117,11 +117,10 @@ module _ (line : Line) (z number : ℕ) (u : TrainId) (time : ℕ) (steps : Arra
     asked_within : end_place (seg_len line) w.path + d ≤ total (seg_len line) (asked_way w.path.steps.items steps.items)
     asked_within =
         let p = between_some len (longest_route line t s) (lo - f.long) (longest_end line t s) order room in
-        let e = between_ends len (longest_route line t s) (lo - f.long) (longest_end line t s) order room in
         let b = between_within len (longest_route line t s) (lo - f.long) (longest_end line t s) order room in
         let z0 = zone_id line in
         let v = way_of line t s one.valid (sound t) c in
-        let reach = reach_granted line (controls z0 t s && nat_lt 0 (counted line t s)) (silent_by line (report_time line z0 t s) (now_with z0 s ask_message)) w.path steps.items to (barring line z0 t s) p (omega (arith, e, b)) in
+        let reach = reach_granted line (controls z0 t s && nat_lt 0 (counted line t s)) (silent_by line (report_time line z0 t s) (now_with z0 s ask_message)) w.path steps.items to (barring line z0 t s) p b in
         let is : limit line z0 t s (now_with z0 s ask_message) steps.items to ≡ reach_from line (controls z0 t s && nat_lt 0 (counted line t s)) (silent_by line (report_time line z0 t s) (now_with z0 s ask_message)) (Some w.path) steps.items to (barring line z0 t s) =
         ap (λ (o : Option PlainWay). reach_from line (controls z0 t s && nat_lt 0 (counted line t s)) (silent_by line (report_time line z0 t s) (now_with z0 s ask_message)) (path_of o) steps.items to (barring line z0 t s)) v.is in
         subst (λ (r : Reach). end_place len w.path + r.distance ≤ total len (asked_way w.path.steps.items steps.items)) (sym is) reach
@@ -201,9 +200,9 @@ module _ (line : Line) (z number : ℕ) (u : TrainId) (time : ℕ) (steps : Arra
           ∙ (ap (λ (q : ℕ). Some (kept_train len t f given_route lo hi (longest_end line t s + d) (now_with (zone_id line) s ask_message) q (last_issued t (x ∷ s)) (counted line t (x ∷ s)))) rep
           ∙ (ap (λ (q : ℕ). Some (kept_train len t f given_route lo hi (longest_end line t s + d) (now_with (zone_id line) s ask_message) (report_time line (zone_id line) t s) q (counted line t (x ∷ s)))) given_last
           ∙ (ap (λ (q : ℕ). Some (kept_train len t f given_route lo hi (longest_end line t s + d) (now_with (zone_id line) s ask_message) (report_time line (zone_id line) t s) (last_issued t s + 1) q)) cnt
-          ∙ (ap (λ (q : ZoneTrain). Some q) (kept_lengthened len steps.items t f (longest_route line t s) given_route lo hi (longest_end line t s) d (now_with (zone_id line) s ask_message) (report_time line (zone_id line) t s) (last_issued t s) (counted line t s)
+          ∙ (ap (λ (q : Controlled). Some q) (kept_lengthened len steps.items t f (longest_route line t s) given_route lo hi (longest_end line t s) d (now_with (zone_id line) s ask_message) (report_time line (zone_id line) t s) (last_issued t s) (counted line t s)
           given_goes order (omega (arith, reaches, far, end_is)) given_steps asked_some asked_within)
-          ∙ sym (ap (λ (q : Option ZoneTrain). mapped (lengthened len steps.items d) q) (grown_is line ask_message s t one (sound t) c)))))))))))
+          ∙ sym (ap (λ (q : Option Controlled). mapped (lengthened len steps.items d) q) (grown_is line ask_message s t one (sound t) c)))))))))))
 
       pub ask_steps : (p : Plain) → Linked line s p → length (steps_to (seg_len line) (longest_route line u.0 (zone_made z number ask_message given ∷ s)) (longest_end line u.0 (zone_made z number ask_message given ∷ s))) ≤ 24 * length s + 24
       ask_steps p k =
@@ -214,13 +213,13 @@ module _ (line : Line) (z number : ℕ) (u : TrainId) (time : ℕ) (steps : Arra
           omega (arith, r, n, m, few)
 
     -- the trains behind it
-    pub ask_moves : ((v : ℕ) → Sound line v (zone_made z number ask_message given ∷ s)) → (p : Plain) (ways : List ZoneTrain) → Linked line s p → Grown line s (now_with (zone_id line) s ask_message) ways
+    pub ask_moves : ((v : ℕ) → Sound line v (zone_made z number ask_message given ∷ s)) → (p : Plain) (ways : List Controlled) → Linked line s p → Grown line s (now_with (zone_id line) s ask_message) ways
         → ZoneMoves line s (zone_made z number ask_message given) (change_way u.0 (lengthened (seg_len line) steps.items d) ways)
     ask_moves after p ways k g =
         record {
           found = λ v. by_test (nat_eq u.0 v)
               (λ its. subst (λ (i : ℕ). find_way i (change_way u.0 (lengthened len steps.items d) ways) ≡ zone_train line i (x ∷ s)) (eqb-true u.0 v its)
-              (way_change u.0 (lengthened len steps.items d) ways (λ y. refl) ∙ (ap (λ (y : Option ZoneTrain). mapped (lengthened len steps.items d) y) (g.found u.0) ∙ sym (ask_own (after u.0)))))
+              (way_change u.0 (lengthened len steps.items d) ways (λ y. refl) ∙ (ap (λ (y : Option Controlled). mapped (lengthened len steps.items d) y) (g.found u.0) ∙ sym (ask_own (after u.0)))))
               (λ o. way_other v u.0 (lengthened len steps.items d) ways (λ y. refl) o
               ∙ (g.found v ∙ sym (zone_silent line z number ask_message given s one zone v (sound v) (after v) (other_silent v o) (and-false (nat_eq (suc z) (zone_id line))) refl refl)));
           known = ids_change u.0 (lengthened len steps.items d) ways (λ y. refl) ∙ (g.known ∙ sym (known_still (zone_id line) x s (and-false (nat_eq (suc z) (zone_id line)))));

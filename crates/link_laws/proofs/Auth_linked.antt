@@ -1,5 +1,5 @@
 -- The plain state follows the world's takes.
-use Rattle.std.proofs.Common.{◌≡◌, ℕ, ◌-◌, ◌≤◌, max, List, ◌∷◌, length, Option, Some, None, Bool, true, false, refl, sym, ◌∙◌, ap, subst, arith, if◌then◌else◌}
+use Rattle.std.proofs.Common.{◌≡◌, ℕ, ◌-◌, ◌≤◌, max, List, [], ◌∷◌, length, Option, Some, None, true, false, refl, sym, ◌∙◌, ap, subst, arith, if◌then◌else◌}
 use Rattle.std.proofs.lemmas.Bool.Decides.{nat_tests}
 use Rattle.std.proofs.lemmas.Bool.{eqb-true}
 use Rattle.std.specs.Prelude.{nat_eq, nat_lt, slice_get, is_some}
@@ -13,28 +13,27 @@ use Rattle.definitions.specs.declared.message.Msg.{Msg}
 use Rattle.definitions.specs.declared.message.Msg.TheVariants as msg
 use Rattle.definitions.specs.Track.{Line, seg_len, last_step}
 use Rattle.definitions.specs.Story.{Entry as Made, Story, or_else, sent, first_told}
-use Rattle.definitions.specs.World.{Facts, facts_of, first_entry, entered, head, journey, Authority, HeldPath, taken_entry, entry_authority, limit_held, limit_place, held_end, authority_end, last_number, clock}
+use Rattle.definitions.specs.World.{Facts, facts_of, first_entry, entered, head, journey, Authority, HeldPath, taken_entry, entry_authority, limit_held, limit_place, held_end, authority_end, last_number}
 use Rattle.definitions.specs.Premises.{head_offset}
-use Rattle.definitions.specs.Steps.{Effect, nothing, made, taking_auth, world_takes}
+use Rattle.definitions.specs.Steps.{Effect, nothing, made, world_takes}
 use Rattle.definitions.specs.Safe.{IsLineOfOneZone}
+use Rattle.event_laws.proofs.Answers.{world_none}
 use Rattle.plain_state.specs.declared.Head.{Head}
 use Rattle.plain_state.specs.declared.EntryAuthority.{EntryAuthority}
 use Rattle.plain_state.specs.declared.WorldTrain.{WorldTrain}
 use Rattle.plain_state.specs.World.{find_train, change_train, authority_if_first, room_on, took_by, took_auth, trains_after}
 use Rattle.plain_state.specs.Plain.{Plain, by_world as world_next}
 use Rattle.plain_state.specs.Relation.{kept_authority, head_of, world_of, world_train, Linked}
-use Rattle.motion_laws.proofs.Notions.{entered_same}
-use Rattle.motion_laws.proofs.Issued.{AllIn, issued_all}
-use Rattle.journey_laws.proofs.Journey.{journey_still}
+use Rattle.event_laws.proofs.Notions.{entered_same}
+use Rattle.event_laws.proofs.Issued.{issued_all, NoAuth, no_issue}
 use Rattle.sound_laws.proofs.Sound.{AuthIs, AuthTrue, Sound}
 use Rattle.sound_laws.proofs.One_route.{on_controls}
 use Rattle.link_laws.proofs.World_trains.{mapped, find_change, find_other, length_change}
-use Rattle.link_laws.proofs.Unissued.{NoAuth}
-use Rattle.link_laws.proofs.World_moves.{head_still, heads_still, facts_still, entry_still, world_same, as_many, unasked_same, off_same, authorized_same, world_linked}
+use Rattle.event_laws.proofs.Still.{head_same, heads_same, journey_still, facts_still, entry_still, as_many, unasked_same, off_same, authorized_same, clock_still}
+use Rattle.link_laws.proofs.World_moves.{world_same, world_linked}
 use Rattle.link_laws.proofs.Limits.{off_limit}
 use Rattle.link_laws.proofs.Head_on.{head_on}
 use Rattle.link_laws.proofs.Heeded.{new_ahead}
-use Rattle.link_laws.proofs.World_linked.{clock_still}
 use Rattle.link_laws.proofs.World_steps.{still_linked}
 
 abbrev pub take_made : ℕ → ℕ → ℕ → Msg → Effect → Made
@@ -98,7 +97,7 @@ module _ (line : Line) (from number : ℕ) (u : TrainId) (n mark : ℕ) (path : 
         let last : last_number t (x ∷ s) ≡ last_number t s = last_off off in
         ap (λ (h : Option Head). mapped (took_auth len from n mark path) (world_of t (facts_of t s) (first_entry t s) (kept_authority len (entry_authority t s)) h (limit_place line t s - head t s) (last_number t s))) none
         ∙ (mapped_off t len from n mark path (facts_of t s) (first_entry t s) (kept_authority len (entry_authority t s)) (limit_place line t s - head t s) (last_number t s)
-        ∙ rw (facts_still t x s refl, entry_still t x s refl, kept, off2, limit, limit2, head_still t x s refl refl, last) refl)
+        ∙ rw (facts_still t x s refl, entry_still t x s refl, kept, off2, limit, limit2, head_same t x s refl refl, last) refl)
 
     -- on the line
     module _ (on : entered t s ≡ true) (sound : Sound line t s) (one : IsLineOfOneZone line) (is : AuthIs line t s n (record { mark = mark; path = path })) (ahead : last_number t s ≤ n → head t s ≤ authority_end (seg_len line) (journey line t s) (record { mark = mark; path = path })) where
@@ -124,7 +123,7 @@ module _ (line : Line) (from number : ℕ) (u : TrainId) (n mark : ℕ) (path : 
           ≡ limit_place line t (take_made 0 from number (msg.Auth u n mark path) y ∷ s) - head t (take_made 0 from number (msg.Auth u n mark path) y ∷ s)
       room_next =
           let c = on_controls line t s sound.authorized on in
-          let same = head_still t x s refl refl in
+          let same = head_same t x s refl refl in
           by_test (nat_lt (last_number t s) n)
           (λ less.
           let o = head_on line t s one.valid sound c on a is.authority (ahead (grind (arith, nat_tests))) in
@@ -143,7 +142,7 @@ module _ (line : Line) (from number : ℕ) (u : TrainId) (n mark : ℕ) (path : 
           ap (λ (k : Option HeldPath). kept_authority len k) authority_next ∙ kept_same len (entry_authority t s) (taken_entry t (Some (from, m))) some in
           let on2 : entered t (x ∷ s) ≡ true = entered_same t x s refl ∙ on in
           let there : head_of line t s ≡ Some h = rw on refl in
-          let there2 : head_of line t (x ∷ s) ≡ Some h = rw (on2, journey_same, head_still t x s refl refl) refl in
+          let there2 : head_of line t (x ∷ s) ≡ Some h = rw (on2, journey_same, head_same t x s refl refl) refl in
           ap (λ (k : Option Head). mapped (took_auth len from n mark path) (world_of t (facts_of t s) (first_entry t s) (kept_authority len (entry_authority t s)) k (limit_place line t s - head t s) (last_number t s))) there
           ∙ (mapped_on t len from n mark path (facts_of t s) (first_entry t s) (kept_authority len (entry_authority t s)) h (limit_place line t s - head t s) (last_number t s)
           ∙ (ap (λ (r : ℕ). world_of t (facts_of t s) (first_entry t s) (kept_authority len (entry_authority t s)) (Some h) r (max (last_number t s) n)) room_next
@@ -183,35 +182,21 @@ auth_linked line from number u n mark path e y s p one k sound true_ after silen
           (λ other. find_other t u.0 (took_auth len from n mark path) p.world.trains (kept_id len from n mark path) other
           ∙ (k.trains t ∙ sym (world_same line t x s (record { facts = refl; entry = refl; off = refl; still = refl; taken = rw other refl }))));
       silent = silent;
-      heads = λ t. heads_still t x s refl refl;
+      heads = λ t. heads_same t x s refl refl;
       count = length_change u.0 (took_auth len from n mark path) p.world.trains ∙ (k.count ∙ sym (as_many x s refl));
       unasked = λ t. unasked_same t x s refl (k.unasked t);
       stays_off = λ t. off_same t x s refl (k.stays_off t);
       authorized = λ t. authorized_same t x s refl (k.authorized t);
     }) sound after is
 
-answer_silent : (ms : ℕ) (on : Bool) (last : ℕ) (u : TrainId) (zone n t : ℕ) → NoAuth t (taking_auth ms on last u zone n).issued
-unfolding AllIn
-answer_silent ms false last u zone n t = tt
-answer_silent ms true last u zone n t = by_test (nat_lt last n)
-    (λ y. rw y (refl, tt))
-    (λ z. rw z (refl, tt))
-
 -- any message
 pub world_take_linked : (line : Line) (from number j : ℕ) (m : Msg) (s : Story) (p : Plain) (y : Effect) → slice_get (sent from 0 s) j ≡ Some m → IsLineOfOneZone line → Linked line s p → ((t : ℕ) → Sound line t s)
     → ((t : ℕ) → Sound line t (take_made 0 from number m (world_takes s from m) ∷ s)) → y ≡ world_takes s from m
     → Linked line (take_made 0 from number m (world_takes s from m) ∷ s) (world_next p (record { clock = p.world.clock; trains = trains_after (seg_len line) p.world.trains from m }) y)
-unfolding AllIn
 world_take_linked line from number j (msg.Auth u n mark path) s p y sent_is one k sound after is =
     auth_linked line from number u n mark path (world_takes s from (msg.Auth u n mark path)) y s p one k sound (issued_all (AuthTrue line u.0 s) from 0 s j (msg.Auth u n mark path) (sound u.0).authorized.auths sent_is)
-    after (λ t. answer_silent (clock s) (entered u.0 s) (last_number u.0 s) u from n t) (ap (λ (z : Effect). z.issued) is)
-world_take_linked line from number j (msg.EntryAsk u time long error speed equipped step) s p y sent_is one k sound after is =
-    still_linked line s p (take_made 0 from number (msg.EntryAsk u time long error speed equipped step) nothing) y one refl refl (λ t. record { facts = refl; entry = refl; off = refl; still = refl; taken = refl }) refl (λ t. tt) k sound after (ap (λ (z : Effect). z.issued) is)
-world_take_linked line from number j (msg.Ask u time steps to) s p y sent_is one k sound after is =
-    still_linked line s p (take_made 0 from number (msg.Ask u time steps to) nothing) y one refl refl (λ t. record { facts = refl; entry = refl; off = refl; still = refl; taken = refl }) refl (λ t. tt) k sound after (ap (λ (z : Effect). z.issued) is)
-world_take_linked line from number j (msg.Report u time mark offset integrity) s p y sent_is one k sound after is =
-    still_linked line s p (take_made 0 from number (msg.Report u time mark offset integrity) nothing) y one refl refl (λ t. record { facts = refl; entry = refl; off = refl; still = refl; taken = refl }) refl (λ t. tt) k sound after (ap (λ (z : Effect). z.issued) is)
-world_take_linked line from number j (msg.Time time u) s p y sent_is one k sound after is =
-    still_linked line s p (take_made 0 from number (msg.Time time u) nothing) y one refl refl (λ t. record { facts = refl; entry = refl; off = refl; still = refl; taken = refl }) refl (λ t. tt) k sound after (ap (λ (z : Effect). z.issued) is)
+    after (λ t. world_none t s from (msg.Auth u n mark path)) (ap (λ (z : Effect). z.issued) is)
 world_take_linked line from number j (msg.Answer u time n taken) s p y sent_is one k sound after is =
-    still_linked line s p (take_made 0 from number (msg.Answer u time n taken) nothing) y one refl refl (λ t. record { facts = refl; entry = refl; off = refl; still = refl; taken = refl }) refl (λ t. tt) k sound after (ap (λ (z : Effect). z.issued) is)
+    still_linked line s p (take_made 0 from number (msg.Answer u time n taken) nothing) y one refl refl (λ t. record { facts = refl; entry = refl; off = refl; still = refl; taken = refl }) refl (λ t. no_issue t [] refl) k sound after (ap (λ (z : Effect). z.issued) is)
+world_take_linked line from number j m s p y sent_is one k sound after is =
+    still_linked line s p (take_made 0 from number m nothing) y one refl refl (λ t. record { facts = refl; entry = refl; off = refl; still = refl; taken = refl }) refl (λ t. no_issue t [] refl) k sound after (ap (λ (z : Effect). z.issued) is)

@@ -11,7 +11,8 @@ use Rattle.definitions.specs.Track.{Line, is_actor, has_zone}
 use Rattle.definitions.specs.Story.{Story}
 use Rattle.definitions.specs.Steps.{taken_most, takes_from, due, sends_to, actors, deliveries}
 use Rattle.definitions.specs.Safe.{IsLineOfOneZone}
-use Rattle.plain_state.specs.Plain.{Plain, zone_id}
+use Rattle.definitions.specs.Zones.{zone_id}
+use Rattle.plain_state.specs.Plain.{Plain}
 use Rattle.plain_state.specs.Relation.{Linked}
 use Rattle.link_laws.proofs.One_zone.{zone_positive, zone_most, zone_declared_there, actor_zone, link_to_zone, link_to_world}
 

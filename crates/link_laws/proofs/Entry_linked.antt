@@ -20,26 +20,26 @@ use Rattle.definitions.specs.Longest.{counted, longest_end, longest_route}
 use Rattle.definitions.specs.Fronts.{report_time}
 use Rattle.definitions.specs.Steps.{Effect, entry_path, enter_or_held}
 use Rattle.definitions.specs.Safe.{IsLineOfOneZone}
-use Rattle.plain_state.specs.ZoneTrain.{ZoneTrain}
+use Rattle.plain_state.specs.declared.Controlled.{Controlled}
 use Rattle.plain_state.specs.Zone.{find_way, placed_way, entered_way, grown_train}
-use Rattle.plain_state.specs.Plain.{Plain, zone_id}
+use Rattle.definitions.specs.Zones.{zone_id}
+use Rattle.plain_state.specs.Plain.{Plain}
 use Rattle.plain_state.specs.Relation.{zone_train, Linked}
-use Rattle.motion_laws.proofs.Issued.{AllIn, AllIssued}
-use Rattle.motion_laws.proofs.Controls.{controls_knows, controls_same, controls_now}
+use Rattle.event_laws.proofs.Issued.{AllIn, AllIssued, NoAuth}
+use Rattle.event_laws.proofs.Controls.{controls_knows, controls_same, controls_now, known_granted, now_acted}
 use Rattle.sound_laws.proofs.Sound.{end_read, AuthIs, Sound}
 use Rattle.sound_laws.proofs.One_route.{last_end}
-use Rattle.front_laws.proofs.Entries.{counted_else}
-use Rattle.front_laws.proofs.Front_moves.{known_granted, now_acted}
+use Rattle.event_laws.proofs.Entries.{counted_else}
 use Rattle.front_laws.proofs.Front_entry.{known_long}
 use Rattle.front_laws.proofs.Front_ends.{ends_entered}
 use Rattle.link_laws.proofs.World_trains.{mapped}
-use Rattle.motion_laws.proofs.Known_trains.{placed, known_more}
+use Rattle.event_laws.proofs.Known_trains.{placed, known_more}
 use Rattle.link_laws.proofs.Zone_trains.{way_placed, ids_placed, distinct_placed}
 use Rattle.link_laws.proofs.Zone_values.{Grown}
 use Rattle.link_laws.proofs.Heeded.{way_steps}
 use Rattle.link_laws.proofs.Kept_train.{kept_train}
 use Rattle.link_laws.proofs.Longer.{route_kept, route_steps}
-use Rattle.link_laws.proofs.Unissued.{NoAuth, end_same}
+use Rattle.link_laws.proofs.Unissued.{end_same}
 use Rattle.link_laws.proofs.Zone_idle.{no_train}
 use Rattle.link_laws.proofs.Zone_moves.{zone_made, zone_heads, ZoneMoves}
 use Rattle.link_laws.proofs.Zone_behind.{steps_same, zone_silent}
@@ -51,14 +51,13 @@ report_entered line z t x s h = rw h refl
 -- a train that was kept on its portal segment alone
 kept_entered : (len : Lengths) (u : TrainId) (long error speed clock : ℕ) (step : DirSeg) → 1 ≤ long → long ≤ len step.seg.0
     → kept_train len u.0 (record { long = long; error = error; speed = speed }) (step ∷ []) long long (len step.seg.0) clock clock 1 0 ≡ entered_way clock u (len step.seg.0) long error speed step
-unfolding steps_behind steps_to offset_to total
+unfolding steps_behind steps_to offset_to total place_of_last
 kept_entered len u long error speed clock step some room =
     let e : long - long ≡ 0 = omega arith in
     let y : nat_lt 0 (len step.seg.0) ≡ true = grind (arith, nat_tests) in
     let k : nat_le (len step.seg.0) (len step.seg.0) ≡ true = grind (arith, nat_tests) in
-    let one : len step.seg.0 - 0 ≡ len step.seg.0 = omega arith in
-    let two : long - 0 ≡ long = omega arith in
-    rw (e, y, k, one, two) refl
+    let z : long - 0 ≡ long = omega arith in
+    rw (e, y, k, z) refl
 
 module _ (line : Line) (z number : ℕ) (u : TrainId) (time long error speed : ℕ) (equipped : Bool) (step : DirSeg) (s : Story) (one : IsLineOfOneZone line) (zone : suc z ≡ zone_id line) (sound : (t : ℕ) → Sound line t s)
     (fresh : controls (zone_id line) u.0 s ≡ false) (wide : nat_lt (seg_len line step.seg.0) long ≡ false) (lines : List Outcome) where
@@ -154,13 +153,13 @@ module _ (line : Line) (z number : ℕ) (u : TrainId) (time long error speed : �
         ∙ (ap (λ (q : ℕ). Some (kept_train len t f (step ∷ []) long long (len step.seg.0) q q (last_issued t (x ∷ s)) (counted line t (x ∷ s)))) now_
         ∙ (ap (λ (q : ℕ). Some (kept_train len t f (step ∷ []) long long (len step.seg.0) (now_with (zone_id line) s m) (now_with (zone_id line) s m) q (counted line t (x ∷ s)))) entered_last
         ∙ (ap (λ (q : ℕ). Some (kept_train len t f (step ∷ []) long long (len step.seg.0) (now_with (zone_id line) s m) (now_with (zone_id line) s m) 1 q)) entered_counted
-        ∙ ap (λ (q : ZoneTrain). Some q) (kept_entered len u long error speed (now_with (zone_id line) s m) step (omega (arith, some, same)) (grind (arith, nat_tests))))))))))))
+        ∙ ap (λ (q : Controlled). Some q) (kept_entered len u long error speed (now_with (zone_id line) s m) step (omega (arith, some, same)) (grind (arith, nat_tests))))))))))))
 
-    pub entered_moves : (p : Plain) (ways : List ZoneTrain) → Linked line s p → Grown line s (now_with (zone_id line) s m) ways
+    pub entered_moves : (p : Plain) (ways : List Controlled) → Linked line s p → Grown line s (now_with (zone_id line) s m) ways
         → ZoneMoves line s (zone_made z number m entered_effect) (placed_way (entered_way (now_with (zone_id line) s m) u (seg_len line step.seg.0) long error speed step) ways)
     entered_moves p ways k g =
         let new = entered_way (now_with (zone_id line) s m) u (len step.seg.0) long error speed step in
-        let none : find_way u.0 ways ≡ None = g.found t ∙ ap (λ (y : Option ZoneTrain). mapped (grown_train (now_with (zone_id line) s m)) y) (no_train line t s fresh) in
+        let none : find_way u.0 ways ≡ None = g.found t ∙ ap (λ (y : Option Controlled). mapped (grown_train (now_with (zone_id line) s m)) y) (no_train line t s fresh) in
         record {
           found = λ v. way_placed v new ways none ∙ by_test (nat_eq u.0 v)
               (λ its. rw its (sym (subst (λ (i : ℕ). zone_train line i (x ∷ s) ≡ Some new) (eqb-true u.0 v its) entered_own)))

@@ -11,9 +11,9 @@ use Rattle.definitions.specs.Control.{known_facts}
 use Rattle.definitions.specs.Longest.{longest_end, longest_route}
 use Rattle.definitions.specs.Fronts.{least_rear}
 use Rattle.definitions.specs.Authority.{envelope}
-use Rattle.plain_state.specs.ZoneTrain.{ZoneTrain}
+use Rattle.plain_state.specs.declared.Controlled.{Controlled}
 use Rattle.plain_state.specs.Zone.{PlainZone, find_way, envelope_has}
-use Rattle.plain_state.specs.Plain.{zone_id}
+use Rattle.definitions.specs.Zones.{zone_id}
 use Rattle.plain_state.specs.Relation.{ZoneLinked}
 use Rattle.way_laws.proofs.Cut.{cut_front, cut_total}
 use Rattle.way_laws.proofs.Cuts.{points_after}
@@ -39,7 +39,7 @@ way_points point layout steps rear end lo hi from to order room behind within ab
     ∙ (sym (points_within point layout (steps_to layout.len steps end) f.0 lo hi (omega (arith, within, t)))
     ∙ ap (λ (xs : List DirSeg). has_between layout xs lo hi point) (sym f.1)))))
 
-pub envelope_now : (line : Line) (s : Story) (z : PlainZone) → is_line line ≡ true → ZoneLinked line (zone_id line) s z → ((t : ℕ) → Sound line t s) → (t : ℕ) (x : ZoneTrain) (point : Point) → find_way t z.trains ≡ Some x
+pub envelope_now : (line : Line) (s : Story) (z : PlainZone) → is_line line ≡ true → ZoneLinked line (zone_id line) s z → ((t : ℕ) → Sound line t s) → (t : ℕ) (x : Controlled) (point : Point) → find_way t z.trains ≡ Some x
     → envelope_has (layout line) x point ≡ envelope line (zone_id line) t s point
 envelope_now line s z valid k sound t x point found =
     let len = seg_len line in
@@ -52,7 +52,7 @@ envelope_now line s z valid k sound t x point found =
     let order = w.order in
     let ordered = w.ordered in
     let within = w.within in
-    subst (λ (y : ZoneTrain). envelope_has (layout line) y point ≡ envelope line (zone_id line) t s point) (found_kept line s valid z.trains k.ways sound t x c found)
+    subst (λ (y : Controlled). envelope_has (layout line) y point ≡ envelope line (zone_id line) t s point) (found_kept line s valid z.trains k.ways sound t x c found)
     (way_points point (layout line) steps (g.lo - long) (longest_end line t s) (g.lo - long) g.hi (g.lo - begin_of len steps (g.lo - long) - long) (g.hi - begin_of len steps (g.lo - long))
     (omega (arith, order, ordered, within)) w.room (omega arith) within (omega (arith, b, order, ordered)) (omega (arith, b)) (omega (arith, b, order, ordered))
     ∙ (ap (λ (n : ℕ). has_between (layout line) steps n g.hi point) (sym w.rear) ∙ ap (λ (n : ℕ). has_between (layout line) steps (least_rear line (zone_id line) t s) n point) (sym w.greatest)))

@@ -15,7 +15,7 @@ use Rattle.definitions.specs.Story.{Story}
 use Rattle.definitions.specs.World.{Authority, route, authority_end, entered, head, journey}
 use Rattle.definitions.specs.Control.{controls}
 use Rattle.definitions.specs.Longest.{longest_end, longest_route}
-use Rattle.plain_state.specs.Plain.{zone_id}
+use Rattle.definitions.specs.Zones.{zone_id}
 use Rattle.way_laws.proofs.Cut.{cut_front, total_append}
 use Rattle.way_laws.proofs.Cuts.{cut_cut, cut_longer}
 use Rattle.sound_laws.proofs.Sound.{step_begin, AuthorityIs, Sound}

@@ -24,13 +24,14 @@ use Rattle.definitions.specs.Authority.{way}
 use Rattle.definitions.specs.Steps.{entry_path}
 use Rattle.definitions.specs.Safe.{IsLineOfOneZone}
 use Rattle.plain_state.specs.declared.WorldTrain.{WorldTrain}
-use Rattle.plain_state.specs.ZoneTrain.{ZoneTrain}
+use Rattle.plain_state.specs.declared.Controlled.{Controlled}
 use Rattle.plain_state.specs.World.{auth_fits, covers_portal, is_step_at, lies_on, train_heeds, world_heeds}
 use Rattle.plain_state.specs.Zone.{find_way, fresh_number, fresh_mark, fresh_train, fresh_message, enters_here, zone_heeds}
-use Rattle.plain_state.specs.Plain.{Plain, zone_id}
+use Rattle.definitions.specs.Zones.{zone_id}
+use Rattle.plain_state.specs.Plain.{Plain}
 use Rattle.plain_state.specs.Relation.{kept_authority, head_of, world_of, zone_train_of, ZoneLinked, Linked}
-use Rattle.motion_laws.proofs.Notions.{both, number_most}
-use Rattle.motion_laws.proofs.Issued.{issued_all}
+use Rattle.event_laws.proofs.Notions.{both, number_most}
+use Rattle.event_laws.proofs.Issued.{issued_all}
 use Rattle.way_laws.proofs.Lines.{portal_on_line}
 use Rattle.sound_laws.proofs.One_route.{numbered_controls}
 use Rattle.way_laws.proofs.Between_places.{between_mark, between_steps}
@@ -162,34 +163,30 @@ module _ (line : Line) (s : Story) (p : Plain) (one : IsLineOfOneZone line) (k :
         let few = marks_few t (record { mark = mark; path = path }) a.authority c in
         rw (fitting path mark a.authority.fits (omega (arith, few, short)))
         (ap (λ (x : Option WorldTrain). train_heeds len x number mark path) (k.trains t) ∙ heeds t number mark path a c (facts_of t s) refl)
-    world_heeded from to j (msg.EntryAsk u time long error speed equipped step) is = refl
-    world_heeded from to j (msg.Ask u time steps limit_to) is = refl
-    world_heeded from to j (msg.Report u time mark offset integrity) is = refl
-    world_heeded from to j (msg.Time time u) is = refl
-    world_heeded from to j (msg.Answer u time number taken) is = refl
+    world_heeded from to j _ is = refl
 
     -- The zone.
 
     low : (t : ℕ) → last_issued t s < 4294967293
     low t = let a = k.few t in omega (arith, a, short)
 
-    fresh_of : (t : ℕ) (w : Option PlainWay) (x : ZoneTrain) → zone_train_of line (zone_id line) t s w ≡ Some x → x.way.mark < 4294967247 → fresh_train x ≡ true
+    fresh_of : (t : ℕ) (w : Option PlainWay) (x : Controlled) → zone_train_of line (zone_id line) t s w ≡ Some x → x.way.mark < 4294967247 → fresh_train x ≡ true
     fresh_of t None x h m = absurd cc
     fresh_of t (Some w) x h m =
         let a = (sound t).authorized.counted_most in
         let b = low t in
         let l : fresh_number (last_issued t s) ≡ true = grind (arith, nat_tests) in
         let n : fresh_number (counted line t s) ≡ true = grind (arith, nat_tests) in
-        let e1 : x.last ≡ last_issued t s = ap (λ (y : Option ZoneTrain). last_or y) (sym h) in
-        let e2 : x.answered ≡ counted line t s = ap (λ (y : Option ZoneTrain). answered_or y) (sym h) in
+        let e1 : x.last ≡ last_issued t s = ap (λ (y : Option Controlled). last_or y) (sym h) in
+        let e2 : x.answered ≡ counted line t s = ap (λ (y : Option Controlled). answered_or y) (sym h) in
         let q : fresh_mark x.way.mark ≡ true = grind (arith, nat_tests) in
         rw (e1, e2, l, n) q
       where
-        last_or : Option ZoneTrain → ℕ
+        last_or : Option Controlled → ℕ
         last_or None = 0
         last_or (Some y) = y.last
 
-        answered_or : Option ZoneTrain → ℕ
+        answered_or : Option Controlled → ℕ
         answered_or None = 0
         answered_or (Some y) = y.answered
 
@@ -216,21 +213,14 @@ module _ (line : Line) (s : Story) (p : Plain) (one : IsLineOfOneZone line) (k :
         let x : fresh_number number ≡ true = grind (arith, nat_tests) in
         let y : fresh_mark mark ≡ true = grind (arith, nat_tests) in
         rw (x, y) refl
-    fresh_taken from to j (msg.EntryAsk u time long error speed equipped step) is = refl
-    fresh_taken from to j (msg.Ask u time steps limit_to) is = refl
-    fresh_taken from to j (msg.Report u time mark offset integrity) is = refl
-    fresh_taken from to j (msg.Time time u) is = refl
+    fresh_taken from to j _ is = refl
 
     entered_here : (from to j : ℕ) (m : Msg) → slice_get (sent from to s) j ≡ Some m → enters_here line (zone_id line) m ≡ true
     entered_here from to j (msg.EntryAsk u time long error speed equipped step) is =
         let r = issued_all (RequestTrue line u.0 s) from to s j (msg.EntryAsk u time long error speed equipped step) (sound u.0).authorized.requests is (itself u.0) in
         let zone : zone_of line step.seg.0 ≡ zone_id line = zone_is line step.seg.0 one (portal_on_line line step one.valid r.portal) in
         rw (r.portal, zone) (itself (zone_id line))
-    entered_here from to j (msg.Ask u time steps limit_to) is = refl
-    entered_here from to j (msg.Report u time mark offset integrity) is = refl
-    entered_here from to j (msg.Time time u) is = refl
-    entered_here from to j (msg.Answer u time number taken) is = refl
-    entered_here from to j (msg.Auth u number mark path) is = refl
+    entered_here from to j _ is = refl
 
     pub zone_heeded : (from to j : ℕ) (m : Msg) → slice_get (sent from to s) j ≡ Some m → zone_heeds line (p.zones (zone_id line)) 0 m ≡ true
     zone_heeded from to j m is =

@@ -1,9 +1,9 @@
 -- A train that the zone keeps, by its ends on its one route.
-use Rattle.std.proofs.Common.{◌≡◌, ℕ, ◌+◌, ◌-◌, ◌≤◌, min, List, Option, Some, true, false, refl, ◌∙◌, ap, arith, None}
+use Rattle.std.proofs.Common.{◌≡◌, ℕ, ◌+◌, ◌-◌, ◌<◌, ◌≤◌, min, List, Option, Some, true, false, refl, ◌∙◌, ap, arith, None}
 use Rattle.std.proofs.lemmas.Bool.Decides.{nat_tests}
 use Rattle.std.specs.Prelude.{nat_lt}
 use Rattle.track_points.specs.declared.ids.DirSeg.{DirSeg}
-use Rattle.track_points.specs.Points.{Lengths}
+use Rattle.track_points.specs.Points.{Lengths, total, end_place}
 use Rattle.envelope.specs.Fronts.{farthest_move}
 use Rattle.definitions.specs.Track.{Line, seg_len}
 use Rattle.definitions.specs.Rules.{is_line}
@@ -15,22 +15,24 @@ use Rattle.definitions.specs.Fold.{account}
 use Rattle.definitions.specs.Control.{controls, known_facts, now_of, last_issued}
 use Rattle.definitions.specs.Longest.{counted, longest_end, longest_route}
 use Rattle.definitions.specs.Fronts.{greatest_front, report_time}
-use Rattle.plain_state.specs.ZoneTrain.{ZoneTrain}
+use Rattle.way_path.specs.Ways.{with_end}
+use Rattle.plain_state.specs.declared.Shrink.{Shrink}
+use Rattle.plain_state.specs.declared.Controlled.{Controlled}
 use Rattle.plain_state.specs.Zone.{grown_train}
-use Rattle.plain_state.specs.Plain.{zone_id}
+use Rattle.definitions.specs.Zones.{zone_id}
 use Rattle.plain_state.specs.Relation.{pending_of, zone_train_of, zone_train}
-use Rattle.way_laws.proofs.Between_places.{begin_of, behind_from}
+use Rattle.way_laws.proofs.Between_places.{begin_of, behind_from, between_ends}
 use Rattle.sound_laws.proofs.Sound.{Sound}
 use Rattle.link_laws.proofs.Way_of.{way_of}
 
 -- its rear is its length behind its least front; its way begins with the step on which that rear stands
-abbrev pub kept_train : Lengths → ℕ → Facts → List DirSeg → ℕ → ℕ → ℕ → ℕ → ℕ → ℕ → ℕ → ZoneTrain
+abbrev pub kept_train : Lengths → ℕ → Facts → List DirSeg → ℕ → ℕ → ℕ → ℕ → ℕ → ℕ → ℕ → Controlled
 kept_train len t f steps lo hi end at report last answered = record {
   id = record { 0 = t };
   train_length = f.long;
   error = f.error;
   speed = f.speed;
-  way = way_between len steps (lo - f.long) end;
+  way = with_end len (way_between len steps (lo - f.long) end);
   fronts = record {
     lo = lo - begin_of len steps (lo - f.long);
     hi = hi - begin_of len steps (lo - f.long);
@@ -60,15 +62,15 @@ zone_kept line t s valid sound c =
     ap (λ (x : Option PlainWay). zone_train_of line z t s x) w.is
     ∙ (ap (λ (n : ℕ). Some (with_ends n (greatest_front line z t s) pending)) w.least
     ∙ (ap (λ (n : ℕ). Some (with_ends (sound.fronts c).lo n pending)) w.greatest
-    ∙ ap (λ (p : Option (ℕ × ℕ)). Some (with_ends (sound.fronts c).lo (sound.fronts c).hi p)) (none_pending (seg_len line) (journey line t s) (begin_of (seg_len line) steps rear) (account line t s) sound.authorized.unshrunk)))
+    ∙ ap (λ (p : Option Shrink). Some (with_ends (sound.fronts c).lo (sound.fronts c).hi p)) (none_pending (seg_len line) (journey line t s) (begin_of (seg_len line) steps rear) (account line t s) sound.authorized.unshrunk)))
   where
-    with_ends : ℕ → ℕ → Option (ℕ × ℕ) → ZoneTrain
+    with_ends : ℕ → ℕ → Option Shrink → Controlled
     with_ends lo hi pending = record {
       id = record { 0 = t };
       train_length = (known_facts (zone_id line) t s).long;
       error = (known_facts (zone_id line) t s).error;
       speed = (known_facts (zone_id line) t s).speed;
-      way = way_between (seg_len line) (longest_route line t s) ((sound.fronts c).lo - (known_facts (zone_id line) t s).long) (longest_end line t s);
+      way = with_end (seg_len line) (way_between (seg_len line) (longest_route line t s) ((sound.fronts c).lo - (known_facts (zone_id line) t s).long) (longest_end line t s));
       fronts = record {
         lo = lo - begin_of (seg_len line) (longest_route line t s) ((sound.fronts c).lo - (known_facts (zone_id line) t s).long);
         hi = hi - begin_of (seg_len line) (longest_route line t s) ((sound.fronts c).lo - (known_facts (zone_id line) t s).long);
@@ -81,25 +83,26 @@ zone_kept line t s valid sound c =
     }
 
 -- growth moves the greatest front
-pub kept_grown : (clock : ℕ) (len : Lengths) (t : ℕ) (f : Facts) (steps : List DirSeg) (lo hi end at report last answered : ℕ) → lo ≤ hi → hi ≤ end
+pub kept_grown : (clock : ℕ) (len : Lengths) (t : ℕ) (f : Facts) (steps : List DirSeg) (lo hi end at report last answered : ℕ) → lo ≤ hi → hi ≤ end → lo - f.long < end → end ≤ total len steps
     → grown_train clock (kept_train len t f steps lo hi end at report last answered)
     ≡ kept_train len t f steps lo (min (hi + farthest_move f.speed (clock - at)) end) end clock report last answered
-kept_grown clock len t f steps lo hi end at report last answered o w =
+kept_grown clock len t f steps lo hi end at report last answered o w order room =
     let b = behind_from len steps (lo - f.long) in
-    let e : min (hi - begin_of len steps (lo - f.long) + farthest_move f.speed (clock - at)) (end - begin_of len steps (lo - f.long)) ≡ min (hi + farthest_move f.speed (clock - at)) end - begin_of len steps (lo - f.long) =
-    less hi end (begin_of len steps (lo - f.long)) (farthest_move f.speed (clock - at)) (omega (arith, b, o)) w in
+    let e : min (hi - begin_of len steps (lo - f.long) + farthest_move f.speed (clock - at)) (end_place len (way_between len steps (lo - f.long) end).path) ≡ min (hi + farthest_move f.speed (clock - at)) end - begin_of len steps (lo - f.long) =
+    ap (λ (n : ℕ). min (hi - begin_of len steps (lo - f.long) + farthest_move f.speed (clock - at)) n) (between_ends len steps (lo - f.long) end order room)
+    ∙ less hi end (begin_of len steps (lo - f.long)) (farthest_move f.speed (clock - at)) (omega (arith, b, o)) w in
     ap (λ (n : ℕ). with_front n) e
   where
     less : (a b c d : ℕ) → c ≤ a → a ≤ b → min (a - c + d) (b - c) ≡ min (a + d) b - c
     less a b c d h k = omega (arith, h, k)
 
-    with_front : ℕ → ZoneTrain
+    with_front : ℕ → Controlled
     with_front n = record {
       id = record { 0 = t };
       train_length = f.long;
       error = f.error;
       speed = f.speed;
-      way = way_between len steps (lo - f.long) end;
+      way = with_end len (way_between len steps (lo - f.long) end);
       fronts = record { lo = lo - begin_of len steps (lo - f.long); hi = n; at = clock };
       report = report;
       last = last;

@@ -15,7 +15,7 @@ use Rattle.definitions.specs.Longest.{longest_route}
 use Rattle.plain_state.specs.World.{moved_on}
 use Rattle.plain_state.specs.Relation.{head_of}
 use Rattle.way_laws.proofs.Cut.{cut_all}
-use Rattle.motion_laws.proofs.Stays.{entered_stays}
+use Rattle.event_laws.proofs.Stays.{entered_stays}
 use Rattle.motion_laws.proofs.Motion.{Motion, head_next}
 use Rattle.journey_laws.proofs.Journey.{journey_ends, journey_led}
 use Rattle.sound_laws.proofs.Sound.{end_read, Sound}

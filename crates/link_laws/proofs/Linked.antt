@@ -4,15 +4,16 @@ use Rattle.definitions.specs.declared.event.Event.{Event}
 use Rattle.track_points.specs.Points.{Point}
 use Rattle.definitions.specs.Track.{Line, layout}
 use Rattle.definitions.specs.Authority.{envelope}
-use Rattle.plain_state.specs.ZoneTrain.{ZoneTrain}
+use Rattle.plain_state.specs.declared.Controlled.{Controlled}
 use Rattle.plain_state.specs.Zone.{find_way, envelope_has}
 use Rattle.definitions.specs.Premises.{built, too_many, premise_of, admits}
 use Rattle.definitions.specs.Steps.{Effect, effects, story_of}
 use Rattle.definitions.specs.Safe.{IsLineOfOneZone, Kept}
-use Rattle.plain_state.specs.Plain.{Plain, zone_id, plain_effect, plain_next}
+use Rattle.definitions.specs.Zones.{zone_id}
+use Rattle.plain_state.specs.Plain.{Plain, plain_effect, plain_next}
 use Rattle.plain_state.specs.Admits.{plain_built, plain_too_many, plain_premise}
 use Rattle.plain_state.specs.Relation.{Linked}
-use Rattle.motion_laws.proofs.Admitted.{admitted}
+use Rattle.event_laws.proofs.Admitted.{admitted}
 use Rattle.motion_laws.proofs.Times.{timed_story}
 use Rattle.sound_laws.proofs.Sound.{Sound}
 use Rattle.link_laws.proofs.Admitting.{built_now, too_many_now, premise_now}
@@ -61,6 +62,6 @@ linked_next line es p e one short k h linked sound =
     linked_step line (story_of line es) p e one (story_short line es short) (admitted line (story_of line es) e h) (timed_story line es k) linked (λ t. sound t es k) (sound_behind line es e k h sound)
 
 -- the envelope that the zone shows of a train
-pub envelope_is : (line : Line) (es : List Event) (p : Plain) (t : ℕ) (x : ZoneTrain) (point : Point) → IsLineOfOneZone line → Kept line es → Linked line (story_of line es) p → AllSound line → find_way t (p.zones (zone_id line)).trains ≡ Some x
+pub envelope_is : (line : Line) (es : List Event) (p : Plain) (t : ℕ) (x : Controlled) (point : Point) → IsLineOfOneZone line → Kept line es → Linked line (story_of line es) p → AllSound line → find_way t (p.zones (zone_id line)).trains ≡ Some x
     → envelope_has (layout line) x point ≡ envelope line (zone_id line) t (story_of line es) point
 envelope_is line es p t x point one k linked sound found = envelope_now line (story_of line es) (p.zones (zone_id line)) one.valid (the_zone line (story_of line es) p one linked) (λ u. sound u es k) t x point found

@@ -7,7 +7,7 @@ use Rattle.std.specs.Prelude.{nat_eq, nat_lt, nat_le, slice_get, is_some}
 use Rattle.std.specs.List.{list_all}
 use Rattle.track_points.proofs.Some.{by_test}
 use Rattle.definitions.specs.declared.event.Event.{Event}
-use Rattle.definitions.specs.declared.event.Event.TheVariants.{Train, Entry, Enter, Ask, Step, Report, Time, Take, Deliver}
+use Rattle.definitions.specs.declared.event.Event.TheVariants.{Train, Entry, Enter, Ask, Step, Report, Time, Take}
 use Rattle.definitions.specs.declared.message.Msg.{Msg}
 use Rattle.definitions.specs.declared.message.Msg.TheVariants as msg
 use Rattle.definitions.specs.Track.{Line, ranged, seg_len, owner, zone_of, begins_at_portal, is_actor, last_step}
@@ -20,18 +20,19 @@ use Rattle.definitions.specs.Account.{farthest}
 use Rattle.definitions.specs.Fold.{account}
 use Rattle.definitions.specs.Steps.{Effect, nothing, entering, requesting, telling, sender_of, taking_auth, world_takes, zone_step, taking, message, effects}
 use Rattle.definitions.specs.Safe.{IsLineOfOneZone}
+use Rattle.event_laws.proofs.Does.{untaken_none}
 use Rattle.track_points.specs.Points.{step_eq}
 use Rattle.plain_state.specs.declared.Head.{Head}
 use Rattle.plain_state.specs.World.{PlainWorld, find_train, head_found, on_found, auth_answer, trains_after, world_take_effect, mark_of}
 use Rattle.plain_state.specs.Zone.{find_way, zone_take_effect, zone_take_next}
-use Rattle.plain_state.specs.Plain.{Plain, plain_start, zone_id, by_world as world_next, by_zone as zone_next, taken_effect, taken_next, plain_effect, plain_next}
+use Rattle.definitions.specs.Zones.{zone_id}
+use Rattle.plain_state.specs.Plain.{Plain, plain_start, by_world as world_next, by_zone as zone_next, taken_effect, taken_next, plain_effect, plain_next}
 use Rattle.plain_state.specs.Relation.{head_of, ids, Distinct, Linked}
-use Rattle.motion_laws.proofs.Notions.{both, not_true}
-use Rattle.motion_laws.proofs.Issued.{AllIn}
-use Rattle.motion_laws.proofs.Admitted.{Admitted}
+use Rattle.event_laws.proofs.Notions.{both, not_true}
+use Rattle.event_laws.proofs.Admitted.{Admitted}
 use Rattle.motion_laws.proofs.Motion.{Timed}
 use Rattle.sound_laws.proofs.Sound.{Sound}
-use Rattle.front_laws.proofs.Front_moves.{grant_takes}
+use Rattle.event_laws.proofs.Grants.{grant_takes}
 use Rattle.link_laws.proofs.One_zone.{actor_zone, world_sent}
 use Rattle.link_laws.proofs.Values.{facts_is, authority_is, head_is, on_is, number_is}
 use Rattle.link_laws.proofs.Heeded.{world_heeded, zone_heeded}
@@ -59,11 +60,7 @@ module _ (line : Line) (s : Story) (p : Plain) (one : IsLineOfOneZone line) (sho
       ap (λ (ms : ℕ). taking_auth ms (entered u.0 s) (last_number u.0 s) u from number) (sym k.time)
       ∙ (ap (λ (b : Bool). taking_auth p.world.clock b (last_number u.0 s) u from number) (sym (on_is line s p k sound u.0))
       ∙ ap (λ (n : ℕ). taking_auth p.world.clock (on_found (find_train u.0 p.world.trains)) n u from number) (sym (number_is line s p k sound u.0)))
-  world_takes_now from (msg.EntryAsk u time long error speed equipped step) = refl
-  world_takes_now from (msg.Ask u time steps to) = refl
-  world_takes_now from (msg.Report u time mark offset integrity) = refl
-  world_takes_now from (msg.Time time u) = refl
-  world_takes_now from (msg.Answer u time number taken) = refl
+  world_takes_now from _ = refl
 
   world_taken : (from j : ℕ) (m : Msg) → slice_get (sent from 0 s) j ≡ Some m → world_takes s from m ≡ world_take_effect line p.world from m
   world_taken from j m is =
@@ -127,26 +124,23 @@ module _ (line : Line) (s : Story) (p : Plain) (one : IsLineOfOneZone line) (sho
       sym (ap (λ (h : Option Head). mark_of h) (head_is line s p k sound t ∙ there))
 
   pub effect_now : (e : Event) → Admitted line s e → ((t : ℕ) → Sound line t (effects line s e ∷ s)) → effect_of (effects line s e) ≡ plain_effect line p e
-  effect_now (Train u long error speed kind) a after = refl
   effect_now (Entry u step) a after =
       ap (λ (ms : ℕ). requesting ms u step (zone_of line step.seg.0) (facts_of u.0 s)) (sym k.time) ∙ ap (λ (f : Option Facts). requesting p.world.clock u step (zone_of line step.seg.0) f) (sym (facts_is line s p k sound u.0))
   effect_now (Enter u) a after =
       ap (λ (ms : ℕ). entering ms u (sender_of (entry_authority u.0 s))) (sym k.time) ∙ ap (λ (o : Option ℕ). entering p.world.clock u o) (sym (authority_is line s p k sound u.0))
   effect_now (Ask u z steps to) a after = ap (λ (ms : ℕ). telling z.0 (msg.Ask u ms steps to)) (sym k.time)
-  effect_now (Step ms moves) a after = refl
   effect_now (Report u z step offset whole) a after =
       let on = (both (entered u.0 s) (step_eq step (last_step (journey line u.0 s)) && off_by (error_of u.0 s) (head_offset line u.0 s) offset) a.reporting).0 in
       ap (λ (ms : ℕ). telling z.0 (msg.Report u ms (length (journey line u.0 s) - 1) offset whole)) (sym k.time) ∙ ap (λ (n : ℕ). telling z.0 (msg.Report u p.world.clock n offset whole)) (mark_now u.0 on)
   effect_now (Time z u) a after = ap (λ (ms : ℕ). telling z.0 (msg.Time ms u)) (sym k.time)
   effect_now (Take to from number) a after =
       (taken_follows to from number a after).effect ∙ ap (λ (xs : List Msg). taken_effect line p to from (slice_get xs (number - 1))) (sym (k.links from to a.form))
-  effect_now (Deliver to) a after = refl
+  effect_now _ a after = refl
 
   issued_now : (e : Event) → Admitted line s e → ((t : ℕ) → Sound line t (effects line s e ∷ s)) → (plain_effect line p e).issued ≡ (effects line s e).issued
   issued_now e a after = ap (λ (x : Effect). x.issued) (sym (effect_now e a after))
 
   pub linked_after : (e : Event) → Admitted line s e → ((t : ℕ) → Sound line t (effects line s e ∷ s)) → Linked line (effects line s e ∷ s) (plain_next line p e)
-  unfolding AllIn
   linked_after (Train u long error speed kind) a after =
       let b = both (ranged 1 65535 u.0) (ranged 1 1000000 long && (nat_lt error long && (ranged 1 60000 speed && not (is_declared u.0 s)))) a.form in
       let c = both (ranged 1 1000000 long) (nat_lt error long && (ranged 1 60000 speed && not (is_declared u.0 s))) b.1 in
@@ -154,26 +148,19 @@ module _ (line : Line) (s : Story) (p : Plain) (one : IsLineOfOneZone line) (sho
       let f = both (ranged 1 60000 speed) (not (is_declared u.0 s)) d.1 in
       train_linked line u long error speed kind s p one (not_true (is_declared u.0 s) f.1) k sound after
   linked_after (Entry u step) a after =
-      entry_linked line (clock s) u step (zone_of line step.seg.0) (facts_of u.0 s) s p (plain_effect line p (Entry u step)) one (both (is_declared u.0 s) (begins_at_portal line step) a.form).0 k sound after (issued_now (Entry u step) a after)
+      entry_linked line (clock s) u step (zone_of line step.seg.0) (facts_of u.0 s) s p (plain_effect line p (Entry u step)) one (both (is_declared u.0 s) (begins_at_portal line step) a.form).0 k sound after (λ t. untaken_none t line s (Entry u step) refl) (issued_now (Entry u step) a after)
   linked_after (Enter u) a after =
       let b = both (is_some (entry_authority u.0 s)) (not (entered u.0 s)) a.entering in
-      enter_linked line (clock s) u (sender_of (entry_authority u.0 s)) s p (plain_effect line p (Enter u)) one a.form b.0 (not_true (entered u.0 s) b.1) k sound after (issued_now (Enter u) a after)
-  linked_after (Ask u z steps to) a after =
-      still_linked line s p (effects line s (Ask u z steps to)) (plain_effect line p (Ask u z steps to)) one refl refl (λ t. record { facts = refl; entry = refl; off = refl; still = refl; taken = refl }) refl (λ t. (refl, tt)) k sound after (issued_now (Ask u z steps to) a after)
+      enter_linked line (clock s) u (sender_of (entry_authority u.0 s)) s p (plain_effect line p (Enter u)) one a.form b.0 (not_true (entered u.0 s) b.1) k sound after (λ t. untaken_none t line s (Enter u) refl) (issued_now (Enter u) a after)
   linked_after (Step ms moves) a after =
       let b = both (ranged 1 60000 ms) (ascending 0 moves.items && list_all (known_train s) moves.items) a.form in
       let c = both (ascending 0 moves.items) (list_all (known_train s) moves.items) b.1 in
       step_linked line ms moves s p one c.0 a.stopping k sound after
-  linked_after (Report u z step offset whole) a after =
-      still_linked line s p (effects line s (Report u z step offset whole)) (plain_effect line p (Report u z step offset whole)) one refl refl (λ t. record { facts = refl; entry = refl; off = refl; still = refl; taken = refl }) refl (λ t. (refl, tt)) k sound after
-      (issued_now (Report u z step offset whole) a after)
-  linked_after (Time z u) a after =
-      still_linked line s p (effects line s (Time z u)) (plain_effect line p (Time z u)) one refl refl (λ t. record { facts = refl; entry = refl; off = refl; still = refl; taken = refl }) refl (λ t. (refl, tt)) k sound after (issued_now (Time z u) a after)
   linked_after (Take to from number) a after =
       subst (λ (xs : List Msg). Linked line (effects line s (Take to from number) ∷ s) (taken_next line p to from (slice_get xs (number - 1)))) (sym (k.links from to a.form))
       (taken_follows to from number a after).linked
-  linked_after (Deliver to) a after =
-      still_linked line s p (effects line s (Deliver to)) (plain_effect line p (Deliver to)) one refl refl (λ t. record { facts = refl; entry = refl; off = refl; still = refl; taken = refl }) refl (λ t. tt) k sound after refl
+  linked_after e a after =
+      still_linked line s p (effects line s e) (plain_effect line p e) one refl refl (λ t. record { facts = refl; entry = refl; off = refl; still = refl; taken = refl }) refl (λ t. untaken_none t line s e refl) k sound after (issued_now e a after)
 
 pub linked_step : (line : Line) (s : Story) (p : Plain) (e : Event) → IsLineOfOneZone line → length s < 100000000 → Admitted line s e → Timed s → Linked line s p
     → ((t : ℕ) → Sound line t s) → ((t : ℕ) → Sound line t (effects line s e ∷ s)) → Linked line (effects line s e ∷ s) (plain_next line p e)

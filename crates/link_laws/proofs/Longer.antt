@@ -14,13 +14,14 @@ use Rattle.definitions.specs.Longest.{counted, longest_end, longest_route}
 use Rattle.definitions.specs.Fronts.{report_time}
 use Rattle.definitions.specs.Limit.{asked_way}
 use Rattle.definitions.specs.Steps.{path_to}
-use Rattle.plain_state.specs.ZoneTrain.{ZoneTrain}
+use Rattle.way_path.specs.Ways.{with_end}
+use Rattle.plain_state.specs.declared.Controlled.{Controlled}
 use Rattle.plain_state.specs.Zone.{lengthened}
-use Rattle.plain_state.specs.Plain.{zone_id}
+use Rattle.definitions.specs.Zones.{zone_id}
 use Rattle.plain_state.specs.Relation.{zone_train}
 use Rattle.way_laws.proofs.Cut.{cut_front, cut_some, cut_total}
 use Rattle.way_laws.proofs.Cuts.{cut_again, offset_more}
-use Rattle.way_laws.proofs.Between_places.{begin_of, between_ends}
+use Rattle.way_laws.proofs.Between_places.{begin_of}
 use Rattle.way_laws.proofs.Between_moved.{between_cut, begin_cut, between_longer}
 use Rattle.sound_laws.proofs.Sound.{AuthorityIs, Sound}
 use Rattle.sound_laws.proofs.One_route.{kept_cut, longest_on}
@@ -43,30 +44,25 @@ path_again len from steps p some h =
 -- the way to a farther end, by the asked way
 longer_way : (len : Lengths) (steps asked : List DirSeg) (rear end d : ℕ) (w : PlainWay) → way_between len steps rear end ≡ w → rear < end → end ≤ total len steps
     → drop w.mark steps ≡ steps_to len asked (end_place len w.path + d) → 0 < length asked → end_place len w.path + d ≤ total len asked
-    → way_between len steps rear (end + d) ≡ record { mark = w.mark; path = path_to len w.path.from asked (end_place len w.path + d); end = end_place len w.path + d }
+    → way_between len steps rear (end + d) ≡ record { mark = w.mark; path = path_to len w.path.from asked (end_place len w.path + d) }
 longer_way len steps asked rear end d w is order room items some h =
-    let e : w.end ≡ end_place len w.path = ap (λ (x : PlainWay). x.end) (sym is) ∙ (between_ends len steps rear end order room ∙ ap (λ (x : PlainWay). end_place len x.path) is) in
-    let k : end + d - end ≡ d = omega arith in
     let p = end_place len w.path + d in
-    between_longer len steps rear end (end + d) order (omega arith)
-    ∙ (ap (λ (n : ℕ). by_way (way_between len steps rear end) n) k
-    ∙ (ap (λ (x : PlainWay). by_way x d) is
-    ∙ (ap (λ (n : ℕ). by_parts (path_to len w.path.from (drop w.mark steps) (n + d)) (n + d)) e
-    ∙ (ap (λ (xs : List DirSeg). by_parts (path_to len w.path.from xs p) p) items
-    ∙ ap (λ (x : Path). by_parts x p) (path_again len w.path.from asked p some h)))))
+    between_longer len steps rear end d order room
+    ∙ (ap by_way is
+    ∙ (ap (λ (xs : List DirSeg). by_path (path_to len w.path.from xs p)) items
+    ∙ ap by_path (path_again len w.path.from asked p some h)))
   where
-    by_way : PlainWay → ℕ → PlainWay
-    by_way x n = record { mark = x.mark; path = path_to len x.path.from (drop x.mark steps) (x.end + n); end = x.end + n }
+    by_way : PlainWay → PlainWay
+    by_way x = record { mark = x.mark; path = path_to len x.path.from (drop x.mark steps) (end_place len x.path + d) }
 
-    by_parts : Path → ℕ → PlainWay
-    by_parts x n = record { mark = w.mark; path = x; end = n }
+    by_path : Path → PlainWay
+    by_path x = record { mark = w.mark; path = x }
 
 -- a kept train lengthened
 kept_longer : (len : Lengths) (asked : List DirSeg) (t : ℕ) (f : Facts) (a b : List DirSeg) (lo hi end d at report last answered : ℕ) → begin_of len b (lo - f.long) ≡ begin_of len a (lo - f.long)
     → way_between len b (lo - f.long) (end + d) ≡ record {
       mark = (way_between len a (lo - f.long) end).mark;
       path = path_to len (way_between len a (lo - f.long) end).path.from (asked_way (way_between len a (lo - f.long) end).path.steps.items asked) (end_place len (way_between len a (lo - f.long) end).path + d);
-      end = end_place len (way_between len a (lo - f.long) end).path + d;
     }
     → kept_train len t f b lo hi (end + d) at report (last + 1) answered ≡ lengthened len asked d (kept_train len t f a lo hi end at report last answered)
 kept_longer len asked t f a b lo hi end d at report last answered begins way_is =
@@ -76,16 +72,15 @@ kept_longer len asked t f a b lo hi end d at report last answered begins way_is 
     longer = record {
       mark = (way_between len a (lo - f.long) end).mark;
       path = path_to len (way_between len a (lo - f.long) end).path.from (asked_way (way_between len a (lo - f.long) end).path.steps.items asked) (end_place len (way_between len a (lo - f.long) end).path + d);
-      end = end_place len (way_between len a (lo - f.long) end).path + d;
     }
 
-    with_way : PlainWay → ℕ → ZoneTrain
+    with_way : PlainWay → ℕ → Controlled
     with_way x n = record {
       id = record { 0 = t };
       train_length = f.long;
       error = f.error;
       speed = f.speed;
-      way = x;
+      way = with_end len x;
       fronts = record { lo = lo - n; hi = hi - n; at = at };
       report = report;
       last = last + 1;

@@ -16,9 +16,10 @@ use Rattle.definitions.specs.Rules.{rule_of, is_any_zone, builds, finish_rule}
 use Rattle.definitions.specs.Safe.{IsLineOfOneZone}
 use Rattle.plain_state.specs.Zone.{PlainZone}
 use Rattle.definitions.proofs.Unbroken.{unbroken}
-use Rattle.plain_state.specs.Plain.{Plain, is_link, zone_id}
+use Rattle.definitions.specs.Zones.{zone_id}
+use Rattle.plain_state.specs.Plain.{Plain, is_link}
 use Rattle.plain_state.specs.Relation.{ZoneLinked, Linked}
-use Rattle.motion_laws.proofs.Notions.{both, or_left}
+use Rattle.event_laws.proofs.Notions.{both, or_left}
 use Rattle.way_laws.proofs.Lines.{builds_step, line_builds}
 
 -- The zone of a valid line is 1 to 16.

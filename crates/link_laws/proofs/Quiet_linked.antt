@@ -20,24 +20,26 @@ use Rattle.definitions.specs.Longest.{longest_end, longest_route}
 use Rattle.definitions.specs.Fronts.{possible_front, is_used}
 use Rattle.definitions.specs.Steps.{Effect, again}
 use Rattle.definitions.specs.Safe.{IsLineOfOneZone}
-use Rattle.plain_state.specs.ZoneTrain.{ZoneTrain}
+use Rattle.event_laws.proofs.Grants.{quiet_grants}
+use Rattle.plain_state.specs.declared.Controlled.{Controlled}
 use Rattle.plain_state.specs.Zone.{find_way, grown_train}
-use Rattle.plain_state.specs.Plain.{Plain, zone_id}
+use Rattle.definitions.specs.Zones.{zone_id}
+use Rattle.plain_state.specs.Plain.{Plain}
 use Rattle.plain_state.specs.Relation.{zone_train, ids, Distinct, Linked}
-use Rattle.motion_laws.proofs.Issued.{AllIn, AllIssued}
+use Rattle.event_laws.proofs.Issued.{AllIn, AllIssued, NoAuth}
 use Rattle.way_laws.proofs.Between_places.{between_end}
-use Rattle.motion_laws.proofs.Controls.{controls_same}
-use Rattle.journey_laws.proofs.Journey.{journey_still}
+use Rattle.event_laws.proofs.Controls.{controls_same}
+use Rattle.event_laws.proofs.Still.{journey_still}
 use Rattle.sound_laws.proofs.Sound.{end_read, AuthIs, Sound}
 use Rattle.sound_laws.proofs.One_route.{last_end}
 use Rattle.front_laws.proofs.Unshrunk.{answers, counted_unanswered}
-use Rattle.authority_laws.proofs.Last_issued.{greatest_none}
+use Rattle.event_laws.proofs.Last_issued.{greatest_none}
 use Rattle.link_laws.proofs.World_trains.{mapped}
 use Rattle.link_laws.proofs.Zone_values.{Grown}
 use Rattle.link_laws.proofs.Way_of.{way_of, way_before}
-use Rattle.motion_laws.proofs.Known_trains.{known_still}
+use Rattle.event_laws.proofs.Known_trains.{known_still}
 use Rattle.link_laws.proofs.Heeded.{way_steps}
-use Rattle.link_laws.proofs.Unissued.{NoAuth, end_same}
+use Rattle.link_laws.proofs.Unissued.{end_same}
 use Rattle.link_laws.proofs.Zone_moves.{zone_made, zone_heads, ZoneMoves}
 use Rattle.link_laws.proofs.Zone_behind.{steps_same, controlled_still, zone_still, zone_silent}
 
@@ -49,7 +51,7 @@ pub record Stays (line : Line) (s : Story) (x : Made) : Type 0 where
   pub ends : (t : ℕ) → controls (zone_id line) t s ≡ true → longest_end line t (x ∷ s) ≡ longest_end line t s
 
 -- the trains behind such an event
-pub stay_moves : (line : Line) (x : Made) (s : Story) (p : Plain) (trains : List ZoneTrain) → IsLineOfOneZone line → Linked line s p → ((t : ℕ) → Sound line t s) → ((t : ℕ) → Sound line t (x ∷ s)) → Stays line s x
+pub stay_moves : (line : Line) (x : Made) (s : Story) (p : Plain) (trains : List Controlled) → IsLineOfOneZone line → Linked line s p → ((t : ℕ) → Sound line t s) → ((t : ℕ) → Sound line t (x ∷ s)) → Stays line s x
     → ((t : ℕ) → find_way t trains ≡ zone_train line t (x ∷ s)) → ids trains ≡ known_trains (zone_id line) s → Distinct trains → ZoneMoves line s x trains
 stay_moves line x s p trains one k sound after h found known distinct = record {
   found = found;
@@ -63,22 +65,25 @@ stay_moves line x s p trains one k sound after h found known distinct = record {
       omega (arith, a, b);
 }
 
-pub silent_stays : (line : Line) (x : Made) (s : Story) → ((t : ℕ) → Sound line t s) → ((t : ℕ) → Sound line t (x ∷ s)) → ((t : ℕ) → grants_entry (zone_id line) t x ≡ false) → ((t : ℕ) → head t s ≤ head t (x ∷ s)) → ((t : ℕ) → NoAuth t x.issued) → Stays line s x
-silent_stays line x s sound after grants heads silent = record {
+pub silent_stays : (line : Line) (x : Made) (s : Story) → ((t : ℕ) → Sound line t s) → ((t : ℕ) → Sound line t (x ∷ s)) → ((t : ℕ) → head t s ≤ head t (x ∷ s)) → ((t : ℕ) → NoAuth t x.issued) → Stays line s x
+silent_stays line x s sound after heads silent = record {
   grants = grants;
   heads = heads;
   few = λ t. let n = greatest_none t x.issued (silent t) in omega (arith, n);
   ends = λ t c. end_same line t x s (silent t) (sound t) (after t) c (controls_same (zone_id line) t x s (grants t) ∙ c) (heads t);
 }
+  where
+    grants : (t : ℕ) → grants_entry (zone_id line) t x ≡ false
+    grants t = quiet_grants (zone_id line) t x (silent t)
 
 -- nothing but growth
-pub quiet_moves : (line : Line) (z number : ℕ) (m : Msg) (e : Effect) (s : Story) (p : Plain) (ways : List ZoneTrain) → IsLineOfOneZone line → suc z ≡ zone_id line → Linked line s p → ((t : ℕ) → Sound line t s)
+pub quiet_moves : (line : Line) (z number : ℕ) (m : Msg) (e : Effect) (s : Story) (p : Plain) (ways : List Controlled) → IsLineOfOneZone line → suc z ≡ zone_id line → Linked line s p → ((t : ℕ) → Sound line t s)
     → ((t : ℕ) → Sound line t (zone_made z number m e ∷ s)) → Grown line s (now_with (zone_id line) s m) ways
-    → ((t : ℕ) → grants_entry (zone_id line) t (zone_made z number m e) ≡ false) → ((t : ℕ) → NoAuth t e.issued)
+    → ((t : ℕ) → NoAuth t e.issued)
     → ((t : ℕ) → is_used line (zone_id line) t s (possible_front line (zone_id line) t s) m ≡ false) → ((t : ℕ) → answers t (Some (0, m)) ≡ false) → ZoneMoves line s (zone_made z number m e) ways
-quiet_moves line z number m e s p ways one zone k sound after g grants silent unused uncounted =
-    stay_moves line (zone_made z number m e) s p ways one k sound after (silent_stays line (zone_made z number m e) s sound after grants (λ t. zone_heads t z number m e s) silent)
-    (λ t. g.found t ∙ sym (zone_silent line z number m e s one zone t (sound t) (after t) (silent t) (grants t) (unused t) (uncounted t))) g.known g.distinct
+quiet_moves line z number m e s p ways one zone k sound after g silent unused uncounted =
+    stay_moves line (zone_made z number m e) s p ways one k sound after (silent_stays line (zone_made z number m e) s sound after (λ t. zone_heads t z number m e s) silent)
+    (λ t. g.found t ∙ sym (zone_silent line z number m e s one zone t (sound t) (after t) (silent t) (quiet_grants (zone_id line) t (zone_made z number m e) (silent t)) (unused t) (uncounted t))) g.known g.distinct
 
 -- The last authority goes out again.
 module _ (line : Line) (z number : ℕ) (time : ℕ) (u : TrainId) (s : Story) (one : IsLineOfOneZone line) (zone : suc z ≡ zone_id line) (sound : (t : ℕ) → Sound line t s) (c : controls (zone_id line) u.0 s ≡ true) (lines : List Outcome) where
@@ -143,7 +148,7 @@ module _ (line : Line) (z number : ℕ) (time : ℕ) (u : TrainId) (s : Story) (
         let exact = again_is.exact in
         omega (arith, begins, b, last, read, exact)
 
-    pub again_moves : (p : Plain) (ways : List ZoneTrain) → Linked line s p → Grown line s (now_with (zone_id line) s m) ways → ZoneMoves line s (zone_made z number m e) ways
+    pub again_moves : (p : Plain) (ways : List Controlled) → Linked line s p → Grown line s (now_with (zone_id line) s m) ways → ZoneMoves line s (zone_made z number m e) ways
     again_moves p ways k g =
         stay_moves line x s p ways one k sound after (record { grants = again_none; heads = λ v. zone_heads v z number m e s; few = again_few; ends = ends })
         (λ v. g.found v ∙ sym (by_test (nat_eq u.0 v)

@@ -19,11 +19,12 @@ use Rattle.definitions.specs.Longest.{counted, longest_end, longest_route}
 use Rattle.definitions.specs.Fronts.{possible_front, fronts_behind, is_used, rear_of, report_time}
 use Rattle.definitions.specs.Steps.{Effect, nothing, place_line, zone_report}
 use Rattle.definitions.specs.Safe.{IsLineOfOneZone}
-use Rattle.plain_state.specs.ZoneTrain.{ZoneTrain}
+use Rattle.way_path.specs.Ways.{plain_way}
+use Rattle.plain_state.specs.declared.Controlled.{Controlled}
 use Rattle.plain_state.specs.Zone.{find_way, change_way, has_mark, uses_mark, narrowed_by, cut_at_rear, check, reported_by, place_of_train, place_found, grown_train}
-use Rattle.plain_state.specs.Plain.{zone_id}
+use Rattle.definitions.specs.Zones.{zone_id}
 use Rattle.plain_state.specs.Relation.{zone_train}
-use Rattle.motion_laws.proofs.Notions.{both}
+use Rattle.event_laws.proofs.Notions.{both}
 use Rattle.sound_laws.proofs.Sound.{Sound}
 use Rattle.front_laws.proofs.Heads.{control_of}
 use Rattle.front_laws.proofs.Front_entry.{known_long}
@@ -35,13 +36,13 @@ use Rattle.link_laws.proofs.Way_of.{way_of}
 use Rattle.link_laws.proofs.Way_marks.{mark_is}
 use Rattle.link_laws.proofs.Kept_train.{kept_train}
 use Rattle.link_laws.proofs.Reported_train.{shown_train, narrowed_is, place_is, cut_is}
-use Rattle.link_laws.proofs.Unissued.{NoAuth}
+use Rattle.event_laws.proofs.Issued.{NoAuth}
 use Rattle.link_laws.proofs.Zone_idle.{no_train}
 use Rattle.link_laws.proofs.Zone_moves.{zone_made}
 use Rattle.link_laws.proofs.Zone_behind.{grown_is, zone_silent, behind_used}
 
 module _ (line : Line) (z number : ℕ) (u : TrainId) (time mark : ℕ) (offset : ℤ) (integrity : Bool) (s : Story) (one : IsLineOfOneZone line) (zone : suc z ≡ zone_id line) (sound : (t : ℕ) → Sound line t s)
-    (ways : List ZoneTrain) (g : Grown line s (now_with (zone_id line) s (msg.Report u time mark offset integrity)) ways) where
+    (ways : List Controlled) (g : Grown line s (now_with (zone_id line) s (msg.Report u time mark offset integrity)) ways) where
   abbrev r : Msg
   r = msg.Report u time mark offset integrity
 
@@ -68,7 +69,7 @@ module _ (line : Line) (z number : ℕ) (u : TrainId) (time mark : ℕ) (offset 
     abbrev k : ℕ
     k = (known_facts (zone_id line) t s).long
 
-    abbrev grown : ZoneTrain
+    abbrev grown : Controlled
     grown = kept_train (seg_len line) t (known_facts (zone_id line) t s) (longest_route line t s) lo hi (longest_end line t s) (now_with (zone_id line) s r) (report_time line (zone_id line) t s) (last_issued t s) (counted line t s)
 
     found_grown : find_way u.0 ways ≡ Some grown
@@ -89,7 +90,7 @@ module _ (line : Line) (z number : ℕ) (u : TrainId) (time mark : ℕ) (offset 
     within : hi ≤ longest_end line u.0 s
     within = omega arith
 
-    mark_used : has_mark grown.way mark ≡ is_used line (zone_id line) u.0 s (possible_front line (zone_id line) u.0 s) (msg.Report u time mark offset integrity)
+    mark_used : has_mark (plain_way grown.way) mark ≡ is_used line (zone_id line) u.0 s (possible_front line (zone_id line) u.0 s) (msg.Report u time mark offset integrity)
     mark_used =
         let w = way_of line t s one.valid (sound t) c in
         let l = long_is in
@@ -108,7 +109,7 @@ module _ (line : Line) (z number : ℕ) (u : TrainId) (time mark : ℕ) (offset 
     told = max (report_time line (zone_id line) t s) time
 
     module _ (uses : is_used line (zone_id line) u.0 s (possible_front line (zone_id line) u.0 s) (msg.Report u time mark offset integrity) ≡ true) where
-      abbrev shown : ZoneTrain
+      abbrev shown : Controlled
       shown = shown_train (seg_len line) t (known_facts (zone_id line) t s) (longest_route line t s) lo hi (longest_end line t s) (now_with (zone_id line) s r) (report_time line (zone_id line) t s) (last_issued t s) (counted line t s)
           long_is.0 long_is.1 ordered within (way_of line t s one.valid (sound t) c).room left.lo left.hi told
 
@@ -123,7 +124,7 @@ module _ (line : Line) (z number : ℕ) (u : TrainId) (time mark : ℕ) (offset 
       cut_now : reported_by (seg_len line) time mark offset integrity grown
           ≡ kept_train (seg_len line) t (known_facts (zone_id line) t s) (longest_route line t s) left.lo left.hi (longest_end line t s) (now_with (zone_id line) s r) told (last_issued t s) (counted line t s)
       cut_now =
-          ap (λ (y : ZoneTrain). cut_at_rear (seg_len line) (check y)) narrowed_now
+          ap (λ (y : Controlled). cut_at_rear (seg_len line) (check y)) narrowed_now
           ∙ cut_is (seg_len line) t (known_facts (zone_id line) t s) (longest_route line t s) lo hi (longest_end line t s) (now_with (zone_id line) s r) (report_time line (zone_id line) t s) (last_issued t s) (counted line t s)
           long_is.0 long_is.1 ordered within (way_of line t s one.valid (sound t) c).room left.lo left.hi told narrower.0 narrower.1.0 narrower.1.1
 
@@ -133,7 +134,7 @@ module _ (line : Line) (z number : ℕ) (u : TrainId) (time mark : ℕ) (offset 
           (last (fronts_behind line (zone_id line) u.0 s (possible_front line (zone_id line) u.0 s) (msg.Report u time mark offset integrity)) (longest_end line u.0 s + 1))
       place_now =
           let n = (fronts_kept line t s u time mark offset integrity ((sound t).fronts c) uses).numbers in
-          ap (λ (y : ZoneTrain). place_of_train (seg_len line) (zone_id line) y) narrowed_now
+          ap (λ (y : Controlled). place_of_train (seg_len line) (zone_id line) y) narrowed_now
           ∙ (place_is (seg_len line) t (known_facts (zone_id line) t s) (longest_route line t s) lo hi (longest_end line t s) (now_with (zone_id line) s r) (report_time line (zone_id line) t s) (last_issued t s) (counted line t s)
           long_is.0 long_is.1 ordered within (way_of line t s one.valid (sound t) c).room left.lo left.hi told narrower.0 narrower.1.0 narrower.1.1 (zone_id line)
           ∙ (ap (λ (n : ℕ). place_line (seg_len line) (zone_id line) u (longest_route line t s) n left.hi) (sym n.rear)
@@ -142,10 +143,10 @@ module _ (line : Line) (z number : ℕ) (u : TrainId) (time mark : ℕ) (offset 
   -- a report is used where the way has the mark
   pub used_is : uses_mark (find_way u.0 ways) mark ≡ is_used line (zone_id line) u.0 s (possible_front line (zone_id line) u.0 s) (msg.Report u time mark offset integrity)
   used_is = by_test (controls (zone_id line) u.0 s)
-      (λ c. ap (λ (y : Option ZoneTrain). uses_mark y mark) (found_grown c) ∙ mark_used c)
+      (λ c. ap (λ (y : Option Controlled). uses_mark y mark) (found_grown c) ∙ mark_used c)
       (λ n.
-      let none : find_way t ways ≡ None = g.found t ∙ ap (λ (y : Option ZoneTrain). mapped (grown_train (now_with (zone_id line) s r)) y) (no_train line t s n) in
-      ap (λ (y : Option ZoneTrain). uses_mark y mark) none ∙ sym (rw (itself, n) refl))
+      let none : find_way t ways ≡ None = g.found t ∙ ap (λ (y : Option Controlled). mapped (grown_train (now_with (zone_id line) s r)) y) (no_train line t s n) in
+      ap (λ (y : Option Controlled). uses_mark y mark) none ∙ sym (rw (itself, n) refl))
 
   used_controls : is_used line (zone_id line) u.0 s (possible_front line (zone_id line) u.0 s) (msg.Report u time mark offset integrity) ≡ true → controls (zone_id line) u.0 s ≡ true
   used_controls h = let a = both (nat_eq u.0 u.0) _ h in (both (controls (zone_id line) u.0 s) _ a.1).0
@@ -157,7 +158,7 @@ module _ (line : Line) (z number : ℕ) (u : TrainId) (time mark : ℕ) (offset 
       (λ y.
       let c = used_controls y in
       ap (λ (b : Bool). if b then with_line (place_line (seg_len line) (zone_id line) u (longest_route line t s) rear_now front_now) else nothing) y
-      ∙ (sym (ap (λ (w : Option ZoneTrain). place_found (seg_len line) (zone_id line) time mark offset integrity w) (found_grown c) ∙ ap (λ (o : Outcome). with_line o) (place_now c y))
+      ∙ (sym (ap (λ (w : Option Controlled). place_found (seg_len line) (zone_id line) time mark offset integrity w) (found_grown c) ∙ ap (λ (o : Outcome). with_line o) (place_now c y))
       ∙ sym (ap (λ (b : Bool). if b then place_found (seg_len line) (zone_id line) time mark offset integrity (find_way u.0 ways) else nothing) (used_is ∙ y))))
       (λ n.
       ap (λ (b : Bool). if b then with_line (place_line (seg_len line) (zone_id line) u (longest_route line t s) rear_now front_now) else nothing) n
@@ -180,8 +181,8 @@ module _ (line : Line) (z number : ℕ) (u : TrainId) (time mark : ℕ) (offset 
       (λ its. subst (λ (i : ℕ). find_way i (change_way u.0 (reported_by (seg_len line) time mark offset integrity) ways) ≡ zone_train line i (x e ∷ s)) (eqb-true u.0 v its)
       (let c = used_controls y in
       way_change t (reported_by (seg_len line) time mark offset integrity) ways (λ w. refl)
-      ∙ (ap (λ (w : Option ZoneTrain). mapped (reported_by (seg_len line) time mark offset integrity) w) (found_grown c)
-      ∙ (ap (λ (w : ZoneTrain). Some w) (cut_now c y)
+      ∙ (ap (λ (w : Option Controlled). mapped (reported_by (seg_len line) time mark offset integrity) w) (found_grown c)
+      ∙ (ap (λ (w : Controlled). Some w) (cut_now c y)
       ∙ sym (behind_used line z number u time mark offset integrity e s one zone t (sound t) (after t) c (and-false (nat_eq (suc z) (zone_id line))) (silent t) y)))))
       (λ o. way_other v u.0 (reported_by (seg_len line) time mark offset integrity) ways (λ w. refl) o ∙ still v (rw o refl))))
       (λ n. rw (used_is, n) (by_test (nat_eq u.0 v)

@@ -12,7 +12,8 @@ use Rattle.definitions.specs.declared.outcome.Outcome.TheVariants as out
 use Rattle.definitions.specs.Ways.{PlainWay, steps_behind, way_between, rear_at, front_at}
 use Rattle.definitions.specs.World.{Facts}
 use Rattle.definitions.specs.Steps.{place_line}
-use Rattle.plain_state.specs.ZoneTrain.{ZoneTrain}
+use Rattle.way_path.specs.Ways.{with_end}
+use Rattle.plain_state.specs.declared.Controlled.{Controlled}
 use Rattle.plain_state.specs.Zone.{has_mark, narrowed_by, cut_behind, place_of_train}
 use Rattle.way_laws.proofs.Cut.{total_append}
 use Rattle.way_laws.proofs.Between_places.{begin_of, behind_from, behind_take, between_rear_at, between_front_at}
@@ -34,13 +35,13 @@ module _ (len : Lengths) (t : ℕ) (f : Facts) (steps : List DirSeg) (lo hi end 
   w = way_between len steps rear end
 
   -- the train with other fronts and another report, before its way is cut
-  abbrev pub shown_train : ℕ → ℕ → ℕ → ZoneTrain
+  abbrev pub shown_train : ℕ → ℕ → ℕ → Controlled
   shown_train low high told = record {
     id = record { 0 = t };
     train_length = f.long;
     error = f.error;
     speed = f.speed;
-    way = way_between len steps (lo - f.long) end;
+    way = with_end len (way_between len steps (lo - f.long) end);
     fronts = record { lo = low - begin_of len steps (lo - f.long); hi = high - begin_of len steps (lo - f.long); at = at };
     report = told;
     last = last;
@@ -64,13 +65,13 @@ module _ (len : Lengths) (t : ℕ) (f : Facts) (steps : List DirSeg) (lo hi end 
         ap (λ (place : ℤ). with_fronts (narrowed_to (record { lo = lo - begin; hi = hi - begin; at = at }) place f.error (farthest_move f.speed (at - time)) integrity)) named
         ∙ ap (λ (x : Fronts). with_fronts x) (narrowed_shifted (record { lo = lo; hi = hi; at = at }) begin est f.error (farthest_move f.speed (at - time)) integrity (omega (arith, b)) ordered)
       where
-        with_fronts : Fronts → ZoneTrain
+        with_fronts : Fronts → Controlled
         with_fronts x = record {
           id = record { 0 = t };
           train_length = f.long;
           error = f.error;
           speed = f.speed;
-          way = way_between len steps (lo - f.long) end;
+          way = with_end len (way_between len steps (lo - f.long) end);
           fronts = x;
           report = max report time;
           last = last;
@@ -121,28 +122,25 @@ module _ (len : Lengths) (t : ℕ) (f : Facts) (steps : List DirSeg) (lo hi end 
         let e : low - begin - f.long ≡ rear2 - begin = omega arith in
         let b = begin_later in
         let one : rear2 - begin - total len (take k w.path.steps.items) ≡ rear2 - begin_of len steps rear2 = omega (arith, b) in
-        let two : end - begin - total len (take k w.path.steps.items) ≡ end - begin_of len steps rear2 = omega (arith, b) in
-        let three : low - begin - total len (take k w.path.steps.items) ≡ low - begin_of len steps rear2 = omega (arith, b) in
-        let four : high - begin - total len (take k w.path.steps.items) ≡ high - begin_of len steps rear2 = omega (arith, b) in
+        let two : low - begin - total len (take k w.path.steps.items) ≡ low - begin_of len steps rear2 = omega (arith, b) in
+        let three : high - begin - total len (take k w.path.steps.items) ≡ high - begin_of len steps rear2 = omega (arith, b) in
         ap (λ (n : ℕ). cut_behind len n (shown_train low high told)) e
-        ∙ (ap (λ (n : ℕ). with_parts n (drop k w.path.steps.items) (rear2 - begin - total len (take k w.path.steps.items)) (end - begin - total len (take k w.path.steps.items)) (low - begin - total len (take k w.path.steps.items)) (high - begin - total len (take k w.path.steps.items))) mark_later
-        ∙ (ap (λ (xs : List DirSeg). with_parts (steps_behind len steps rear2) xs (rear2 - begin - total len (take k w.path.steps.items)) (end - begin - total len (take k w.path.steps.items)) (low - begin - total len (take k w.path.steps.items)) (high - begin - total len (take k w.path.steps.items))) items_later
-        ∙ (ap (λ (n : ℕ). with_parts (steps_behind len steps rear2) (drop (steps_behind len steps rear2) cut) n (end - begin - total len (take k w.path.steps.items)) (low - begin - total len (take k w.path.steps.items)) (high - begin - total len (take k w.path.steps.items))) one
-        ∙ (ap (λ (n : ℕ). with_parts (steps_behind len steps rear2) (drop (steps_behind len steps rear2) cut) (rear2 - begin_of len steps rear2) n (low - begin - total len (take k w.path.steps.items)) (high - begin - total len (take k w.path.steps.items))) two
-        ∙ (ap (λ (n : ℕ). with_parts (steps_behind len steps rear2) (drop (steps_behind len steps rear2) cut) (rear2 - begin_of len steps rear2) (end - begin_of len steps rear2) n (high - begin - total len (take k w.path.steps.items))) three
-        ∙ ap (λ (n : ℕ). with_parts (steps_behind len steps rear2) (drop (steps_behind len steps rear2) cut) (rear2 - begin_of len steps rear2) (end - begin_of len steps rear2) (low - begin_of len steps rear2) n) four)))))
+        ∙ (ap (λ (n : ℕ). with_parts n (drop k w.path.steps.items) (rear2 - begin - total len (take k w.path.steps.items)) (low - begin - total len (take k w.path.steps.items)) (high - begin - total len (take k w.path.steps.items))) mark_later
+        ∙ (ap (λ (xs : List DirSeg). with_parts (steps_behind len steps rear2) xs (rear2 - begin - total len (take k w.path.steps.items)) (low - begin - total len (take k w.path.steps.items)) (high - begin - total len (take k w.path.steps.items))) items_later
+        ∙ (ap (λ (n : ℕ). with_parts (steps_behind len steps rear2) (drop (steps_behind len steps rear2) cut) n (low - begin - total len (take k w.path.steps.items)) (high - begin - total len (take k w.path.steps.items))) one
+        ∙ (ap (λ (n : ℕ). with_parts (steps_behind len steps rear2) (drop (steps_behind len steps rear2) cut) (rear2 - begin_of len steps rear2) n (high - begin - total len (take k w.path.steps.items))) two
+        ∙ ap (λ (n : ℕ). with_parts (steps_behind len steps rear2) (drop (steps_behind len steps rear2) cut) (rear2 - begin_of len steps rear2) (low - begin_of len steps rear2) n) three))))
       where
-        with_parts : ℕ → List DirSeg → ℕ → ℕ → ℕ → ℕ → ZoneTrain
-        with_parts mark items from to_end a b = record {
+        with_parts : ℕ → List DirSeg → ℕ → ℕ → ℕ → Controlled
+        with_parts mark items from a b = record {
           id = record { 0 = t };
           train_length = f.long;
           error = f.error;
           speed = f.speed;
-          way = record {
+          way = with_end len (record {
             mark = mark;
             path = record { steps = record { items = items }; from = from; to = offset_to len steps end };
-            end = to_end;
-          };
+          });
           fronts = record { lo = a; hi = b; at = at };
           report = told;
           last = last;

@@ -1,23 +1,17 @@
 -- What an event leaves that issues no authority of a train.
-use Rattle.std.proofs.Common.{◌≡◌, ℕ, ◌≤◌, List, ◌∷◌, true, false, refl, arith}
-use Rattle.std.specs.Prelude.{nat_eq}
+use Rattle.std.proofs.Common.{◌≡◌, ℕ, ◌≤◌, ◌∷◌, true, false, arith}
 use Rattle.track_points.proofs.Some.{by_test}
-use Rattle.definitions.specs.declared.message.Msg.{Msg}
 use Rattle.definitions.specs.Track.{Line}
 use Rattle.definitions.specs.Story.{Entry as Made, Story}
-use Rattle.definitions.specs.World.{is_auth, head}
-use Rattle.definitions.specs.Control.{grants_entry, controls}
+use Rattle.definitions.specs.World.{head}
+use Rattle.definitions.specs.Control.{controls}
 use Rattle.definitions.specs.Longest.{longest_end}
-use Rattle.definitions.specs.Fronts.{report_time}
 use Rattle.definitions.specs.Safe.{IsLineOfOneZone}
-use Rattle.plain_state.specs.Plain.{zone_id}
-use Rattle.motion_laws.proofs.Issued.{AllIn}
+use Rattle.definitions.specs.Zones.{zone_id}
+use Rattle.event_laws.proofs.Issued.{NoAuth}
 use Rattle.sound_laws.proofs.Sound.{Sound}
 use Rattle.front_laws.proofs.Route_goes_on.{end_quiet}
 use Rattle.link_laws.proofs.One_zone.{zone_positive}
-
-abbrev pub NoAuth : ℕ → List (ℕ × Msg) → Type 0
-NoAuth t issued = AllIn (λ m. is_auth t m ≡ false) issued
 
 -- the longest authority ends where it did
 pub end_same : (line : Line) (t : ℕ) (x : Made) (s : Story) → NoAuth t x.issued → (sound : Sound line t s) → (after : Sound line t (x ∷ s)) → controls (zone_id line) t s ≡ true → controls (zone_id line) t (x ∷ s) ≡ true
@@ -29,7 +23,3 @@ pub world_controls : (line : Line) (t : ℕ) (s : Story) → IsLineOfOneZone lin
 world_controls line t s l sound = by_test (controls 0 t s)
     (λ y. let z = sound.authorized.zone_alone 0 y in let p = zone_positive line l in absurd (omega (arith, z, p)))
     (λ n. n)
-
-pub report_idle : (line : Line) (z t : ℕ) (x : Made) (s : Story) → grants_entry z t x ≡ false → nat_eq x.actor z ≡ false → report_time line z t (x ∷ s) ≡ report_time line z t s
-unfolding report_time
-report_idle line z t x s h n = rw (h, n) refl

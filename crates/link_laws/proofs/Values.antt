@@ -15,7 +15,8 @@ use Rattle.plain_state.specs.declared.Head.{Head}
 use Rattle.plain_state.specs.declared.WorldTrain.{WorldTrain}
 use Rattle.plain_state.specs.declared.EntryAuthority.{EntryAuthority}
 use Rattle.plain_state.specs.World.{find_train, facts_found, entry_found, kept_sender, authority_found, head_found, on_found, number_found, room_found, error_found, speed_found}
-use Rattle.plain_state.specs.Plain.{Plain, zone_id}
+use Rattle.definitions.specs.Zones.{zone_id}
+use Rattle.plain_state.specs.Plain.{Plain}
 use Rattle.plain_state.specs.Relation.{kept_authority, head_of, world_of, Linked}
 use Rattle.sound_laws.proofs.Sound.{Sound}
 

@@ -10,7 +10,7 @@ use Rattle.definitions.specs.Control.{controls, known_facts}
 use Rattle.definitions.specs.Longest.{longest_end, longest_route}
 use Rattle.definitions.specs.Fronts.{least_rear, greatest_front}
 use Rattle.definitions.specs.Authority.{way}
-use Rattle.plain_state.specs.Plain.{zone_id}
+use Rattle.definitions.specs.Zones.{zone_id}
 use Rattle.sound_laws.proofs.One_route.{kept_reach}
 use Rattle.sound_laws.proofs.Sound.{Sound}
 use Rattle.front_laws.proofs.Heads.{control_of}

@@ -19,23 +19,19 @@ use Rattle.plain_state.specs.declared.WorldTrain.{WorldTrain}
 use Rattle.plain_state.specs.World.{find_train, change_train, new_train, asked_at_portal}
 use Rattle.plain_state.specs.Plain.{Plain, by_world as world_next}
 use Rattle.plain_state.specs.Relation.{kept_authority, head_of, world_of, world_train, Linked}
-use Rattle.motion_laws.proofs.Notions.{told_now, entered_same}
-use Rattle.motion_laws.proofs.Issued.{AllIn}
+use Rattle.event_laws.proofs.Notions.{told_now, entered_same, or_none}
+use Rattle.event_laws.proofs.Issued.{AllIn, NoAuth}
 use Rattle.journey_laws.proofs.Journey.{journey_ends, journey_led, led_still}
 use Rattle.sound_laws.proofs.Sound.{Sound}
 use Rattle.sound_laws.proofs.One_route.{on_controls}
 use Rattle.sound_laws.proofs.First_steps.{controlled_some, controlled_reaches}
 use Rattle.link_laws.proofs.World_trains.{mapped, find_change, find_other, find_append, length_change, length_append}
 use Rattle.link_laws.proofs.Values.{no_entry_authority, no_number}
-use Rattle.link_laws.proofs.Unissued.{NoAuth}
-use Rattle.link_laws.proofs.World_moves.{head_still, heads_still, last_still, limit_still, authority_still, facts_still, entry_still, world_same, undeclared_before, unasked_same, off_same, authorized_same, as_many, world_linked}
+use Rattle.event_laws.proofs.Still.{head_same, heads_same, last_still, limit_still, authority_still, facts_still, entry_still, undeclared_before, unasked_same, off_same, authorized_same, as_many, clock_still}
+use Rattle.link_laws.proofs.World_moves.{world_same, world_linked}
 use Rattle.link_laws.proofs.Limits.{off_limit}
 
 -- A train is declared.
-
-pub or_none : {A : Type 0} (x : Option A) → or_else x None ≡ x
-or_none None = refl
-or_none (Some x) = refl
 
 abbrev train_entry : TrainId → ℕ → ℕ → ℕ → Kind → Made
 train_entry u long error speed kind = made (Train u long error speed kind) 0 None nothing
@@ -76,10 +72,6 @@ one_more : (u : TrainId) (long error speed : ℕ) (kind : Kind) (s : Story) → 
 unfolding ts.trains
 one_more u long error speed kind s = refl
 
-pub clock_still : (x : Made) (s : Story) → ts.elapsed x.event ≡ 0 → clock s ≡ clock (x ∷ s)
-unfolding clock
-clock_still x s h = omega (arith, h)
-
 pub train_linked : (line : Line) (u : TrainId) (long error speed : ℕ) (kind : Kind) (s : Story) (p : Plain) → IsLineOfOneZone line → is_declared u.0 s ≡ false → Linked line s p → ((t : ℕ) → Sound line t s)
     → ((t : ℕ) → Sound line t (train_entry u long error speed kind ∷ s))
     → Linked line (train_entry u long error speed kind ∷ s) (world_next p (record { clock = p.world.clock; trains = p.world.trains ++ new_train u long error speed ∷ [] }) nothing)
@@ -92,7 +84,7 @@ train_linked line u long error speed kind s p one first k sound after =
       time = k.time ∙ clock_still x s refl;
       found = λ t. train_found line t u long error speed kind s p first k (sound t);
       silent = λ t. tt;
-      heads = λ t. heads_still t x s refl refl;
+      heads = λ t. heads_same t x s refl refl;
       count = length_append p.world.trains (new_train u long error speed) ∙ (ap (λ (n : ℕ). suc n) k.count ∙ sym (one_more u long error speed kind s));
       unasked = λ t. unasked_same t x s refl (k.unasked t);
       stays_off = λ t. off_same t x s refl (k.stays_off t);
@@ -103,11 +95,6 @@ train_linked line u long error speed kind s p one first k sound after =
 
 abbrev entry_entry : ℕ → TrainId → DirSeg → ℕ → Option Facts → Made
 entry_entry ms u step zone f = made (Entry u step) 0 None (requesting ms u step zone f)
-
-entry_silent : (t ms : ℕ) (u : TrainId) (step : DirSeg) (zone : ℕ) (f : Option Facts) → NoAuth t (requesting ms u step zone f).issued
-unfolding AllIn
-entry_silent t ms u step zone None = tt
-entry_silent t ms u step zone (Some f) = (refl, tt)
 
 mapped_entry : (t : ℕ) (step : DirSeg) (f : Option Facts) (e : Option DirSeg) (a : Option EntryAuthority) (h : Option Head) (m n : ℕ) → mapped (asked_at_portal step) (world_of t f e a h m n) ≡ world_of t f (or_else e (Some step)) a h m n
 mapped_entry t step None e a h m n = refl
@@ -144,7 +131,7 @@ entry_found_now line t ms u step zone f s p k sound =
     by_test (nat_eq u.0 t)
     (λ its.
     let same : u.0 ≡ t = eqb-true u.0 t its in
-    let parts = same_head line t x s sound refl (head_still t x s refl refl) (limit_still t x s refl refl) in
+    let parts = same_head line t x s sound refl (head_same t x s refl refl) (limit_still t x s refl refl) in
     ap (λ (n : ℕ). find_train t (change_train n (asked_at_portal step) p.world.trains)) same
     ∙ (find_change t (asked_at_portal step) p.world.trains (λ y. refl)
     ∙ (ap (λ (y : Option WorldTrain). mapped (asked_at_portal step) y) (k.trains t)
@@ -152,7 +139,7 @@ entry_found_now line t ms u step zone f s p k sound =
     ∙ (ap (λ (h : Option Head). world_of t (facts_of t s) (or_else (first_entry t s) (Some step)) (kept_authority (seg_len line) (entry_authority t s)) h (limit_place line t s - head t s) (last_number t s)) (sym parts.0)
     ∙ (ap (λ (n : ℕ). world_of t (facts_of t s) (or_else (first_entry t s) (Some step)) (kept_authority (seg_len line) (entry_authority t s)) (head_of line t (x ∷ s)) (n - head t s) (last_number t s)) (sym parts.1)
     ∙ (ap (λ (e : Option DirSeg). world_of t (facts_of t s) e (kept_authority (seg_len line) (entry_authority t s)) (head_of line t (x ∷ s)) (limit_place line t (x ∷ s) - head t s) (last_number t s)) (sym (first_next t ms u step zone f s its))
-    ∙ (ap (λ (n : ℕ). world_of t (facts_of t s) (first_entry t (x ∷ s)) (kept_authority (seg_len line) (entry_authority t s)) (head_of line t (x ∷ s)) (limit_place line t (x ∷ s) - n) (last_number t s)) (sym (head_still t x s refl refl))
+    ∙ (ap (λ (n : ℕ). world_of t (facts_of t s) (first_entry t (x ∷ s)) (kept_authority (seg_len line) (entry_authority t s)) (head_of line t (x ∷ s)) (limit_place line t (x ∷ s) - n) (last_number t s)) (sym (head_same t x s refl refl))
     ∙ (ap (λ (g : Option Facts). world_of t g (first_entry t (x ∷ s)) (kept_authority (seg_len line) (entry_authority t s)) (head_of line t (x ∷ s)) (limit_place line t (x ∷ s) - head t (x ∷ s)) (last_number t s)) (sym (facts_still t x s refl))
     ∙ (ap (λ (h : Option HeldPath). world_of t (facts_of t (x ∷ s)) (first_entry t (x ∷ s)) (kept_authority (seg_len line) h) (head_of line t (x ∷ s)) (limit_place line t (x ∷ s) - head t (x ∷ s)) (last_number t s)) (sym (authority_still t x s refl))
     ∙ ap (λ (n : ℕ). world_of t (facts_of t (x ∷ s)) (first_entry t (x ∷ s)) (kept_authority (seg_len line) (entry_authority t (x ∷ s))) (head_of line t (x ∷ s)) (limit_place line t (x ∷ s) - head t (x ∷ s)) n) (sym (last_still t x s refl refl))))))))))))
@@ -160,16 +147,16 @@ entry_found_now line t ms u step zone f s p k sound =
     ∙ (k.trains t ∙ sym (world_same line t x s (record { facts = refl; entry = rw other refl; off = refl; still = refl; taken = refl }))))
 
 pub entry_linked : (line : Line) (ms : ℕ) (u : TrainId) (step : DirSeg) (zone : ℕ) (f : Option Facts) (s : Story) (p : Plain) (y : Effect) → IsLineOfOneZone line → is_declared u.0 s ≡ true → Linked line s p → ((t : ℕ) → Sound line t s)
-    → ((t : ℕ) → Sound line t (entry_entry ms u step zone f ∷ s)) → y.issued ≡ (requesting ms u step zone f).issued
+    → ((t : ℕ) → Sound line t (entry_entry ms u step zone f ∷ s)) → ((t : ℕ) → NoAuth t (requesting ms u step zone f).issued) → y.issued ≡ (requesting ms u step zone f).issued
     → Linked line (entry_entry ms u step zone f ∷ s) (world_next p (record { clock = p.world.clock; trains = change_train u.0 (asked_at_portal step) p.world.trains }) y)
-entry_linked line ms u step zone f s p y one declared k sound after is =
+entry_linked line ms u step zone f s p y one declared k sound after silent is =
     let x = entry_entry ms u step zone f in
     world_linked line s p x p.world.clock (change_train u.0 (asked_at_portal step) p.world.trains) y one k (record {
       by_world = refl;
       time = k.time ∙ clock_still x s refl;
       found = λ t. entry_found_now line t ms u step zone f s p k (sound t);
-      silent = λ t. entry_silent t ms u step zone f;
-      heads = λ t. heads_still t x s refl refl;
+      silent = silent;
+      heads = λ t. heads_same t x s refl refl;
       count = length_change u.0 (asked_at_portal step) p.world.trains ∙ (k.count ∙ sym (as_many x s refl));
       unasked = λ t d. by_test (nat_eq u.0 t)
           (λ its.

@@ -23,26 +23,20 @@ use Rattle.plain_state.specs.declared.WorldTrain.{WorldTrain}
 use Rattle.plain_state.specs.World.{find_train, change_train, head_at_entry, kept_limit, come_on, moved_on, moved_train, trains_moved}
 use Rattle.plain_state.specs.Plain.{Plain, by_world as world_next}
 use Rattle.plain_state.specs.Relation.{kept_authority, head_of, world_of, world_train, Linked}
-use Rattle.motion_laws.proofs.Notions.{both, ever_now}
+use Rattle.event_laws.proofs.Notions.{both, ever_now}
 use Rattle.motion_laws.proofs.Motion.{heads_rise}
-use Rattle.motion_laws.proofs.Issued.{AllIn}
+use Rattle.event_laws.proofs.Issued.{AllIn, NoAuth}
 use Rattle.sound_laws.proofs.Sound.{Sound}
 use Rattle.link_laws.proofs.World_trains.{mapped, find_change, find_other, length_change}
-use Rattle.link_laws.proofs.Unissued.{NoAuth}
-use Rattle.link_laws.proofs.World_moves.{heads_still, StillWorld, last_still, authority_still, facts_still, entry_still, world_same, undeclared_before, authority_stays, unasked_same, off_same, authorized_same, as_many, world_linked}
+use Rattle.event_laws.proofs.Still.{heads_same, StillWorld, last_still, authority_still, facts_still, entry_still, undeclared_before, authority_stays, unasked_same, off_same, authorized_same, as_many, clock_still}
+use Rattle.link_laws.proofs.World_moves.{world_same, world_linked}
 use Rattle.link_laws.proofs.Head_moved.{head_at}
 use Rattle.link_laws.proofs.Limits.{head_moves, limit_same, head_at_length, journey_entered}
-use Rattle.link_laws.proofs.World_linked.{clock_still}
 
 -- A train comes on.
 
 abbrev enter_entry : ℕ → TrainId → Option ℕ → Made
 enter_entry ms u a = made (Enter u) 0 None (entering ms u a)
-
-enter_silent : (t ms : ℕ) (u : TrainId) (a : Option ℕ) → NoAuth t (entering ms u a).issued
-unfolding AllIn
-enter_silent t ms u None = tt
-enter_silent t ms u (Some zone) = (refl, tt)
 
 mapped_on : (t : ℕ) (f : Facts) (e : Option DirSeg) (a : Option EntryAuthority) (h : Option Head) (m n : ℕ)
     → mapped come_on (world_of t (Some f) e a h m n) ≡ world_of t (Some f) e a (head_at_entry e f.long) (kept_limit a - f.long) 1
@@ -114,15 +108,15 @@ enter_found line t ms u a s p declared some fresh k sound =
     ∙ (k.trains t ∙ sym (world_same line t x s (record { facts = refl; entry = refl; off = other; still = refl; taken = refl }))))
 
 pub enter_linked : (line : Line) (ms : ℕ) (u : TrainId) (a : Option ℕ) (s : Story) (p : Plain) (y : Effect) → IsLineOfOneZone line → is_declared u.0 s ≡ true → is_some (entry_authority u.0 s) ≡ true → entered u.0 s ≡ false → Linked line s p → ((t : ℕ) → Sound line t s)
-    → ((t : ℕ) → Sound line t (enter_entry ms u a ∷ s)) → y.issued ≡ (entering ms u a).issued
+    → ((t : ℕ) → Sound line t (enter_entry ms u a ∷ s)) → ((t : ℕ) → NoAuth t (entering ms u a).issued) → y.issued ≡ (entering ms u a).issued
     → Linked line (enter_entry ms u a ∷ s) (world_next p (record { clock = p.world.clock; trains = change_train u.0 come_on p.world.trains }) y)
-enter_linked line ms u a s p y one declared some fresh k sound after is =
+enter_linked line ms u a s p y one declared some fresh k sound after silent is =
     let x = enter_entry ms u a in
     world_linked line s p x p.world.clock (change_train u.0 come_on p.world.trains) y one k (record {
       by_world = refl;
       time = k.time ∙ clock_still x s refl;
       found = λ t. enter_found line t ms u a s p declared some fresh k (sound t);
-      silent = λ t. enter_silent t ms u a;
+      silent = silent;
       heads = λ t. heads_rise t x s (sound t).motion (λ its. subst (λ (n : ℕ). entered n s ≡ false) (eqb-true u.0 t its) fresh);
       count = length_change u.0 come_on p.world.trains ∙ (k.count ∙ sym (as_many x s refl));
       unasked = λ t. unasked_same t x s refl (k.unasked t);
@@ -147,7 +141,7 @@ still_linked line s p x y one world time still many silent k sound after is =
       time = k.time ∙ clock_still x s time;
       found = λ t. k.trains t ∙ sym (world_same line t x s (still t));
       silent = silent;
-      heads = λ t. heads_still t x s (still t).off (still t).still;
+      heads = λ t. heads_same t x s (still t).off (still t).still;
       count = k.count ∙ sym (as_many x s many);
       unasked = λ t. unasked_same t x s (still t).entry (k.unasked t);
       stays_off = λ t. off_same t x s (still t).off (k.stays_off t);

@@ -18,21 +18,23 @@ use Rattle.definitions.specs.Authority.{way, holder_of}
 use Rattle.definitions.specs.Limit.{Reach, limit}
 use Rattle.definitions.specs.Steps.{Effect, zone_entry, zone_ask, zone_time, zone_takes}
 use Rattle.definitions.specs.Safe.{IsLineOfOneZone}
-use Rattle.plain_state.specs.ZoneTrain.{ZoneTrain}
+use Rattle.plain_state.specs.declared.Controlled.{Controlled}
 use Rattle.plain_state.specs.Zone.{find_way, change_way, way_found, last_found, full, answer, again_found, zone_answer, grown_train}
-use Rattle.plain_state.specs.Plain.{Plain, zone_id}
+use Rattle.definitions.specs.Zones.{zone_id}
+use Rattle.plain_state.specs.Plain.{Plain}
 use Rattle.plain_state.specs.Relation.{zone_train_of, zone_train, Linked}
-use Rattle.motion_laws.proofs.Controls.{controls_same}
+use Rattle.event_laws.proofs.Controls.{controls_same}
 use Rattle.sound_laws.proofs.Sound.{Sound}
 use Rattle.front_laws.proofs.Front_numbers.{grown_to}
 use Rattle.front_laws.proofs.Unshrunk.{counted_answered}
-use Rattle.authority_laws.proofs.Last_issued.{last_quiet}
+use Rattle.event_laws.proofs.Last_issued.{last_quiet}
 use Rattle.link_laws.proofs.World_trains.{mapped}
 use Rattle.link_laws.proofs.Zone_trains.{way_change, way_other, ids_change, distinct_change}
 use Rattle.link_laws.proofs.Zone_values.{Grown, way_now, last_now, known_now, full_now, holder_now, reach_now}
 use Rattle.link_laws.proofs.Values.{way_is_known}
 use Rattle.link_laws.proofs.Kept_train.{kept_train}
-use Rattle.link_laws.proofs.Unissued.{NoAuth, end_same}
+use Rattle.event_laws.proofs.Issued.{NoAuth}
+use Rattle.link_laws.proofs.Unissued.{end_same}
 use Rattle.link_laws.proofs.Zone_idle.{no_train}
 use Rattle.link_laws.proofs.Zone_moves.{zone_made, zone_heads, ZoneMoves}
 use Rattle.link_laws.proofs.Zone_behind.{grown_is, controlled_still, behind_unused, zone_silent}
@@ -43,7 +45,7 @@ time_by : (line : Line) (u : TrainId) (s : Story) (clock : ℕ) (w : Option Plai
 time_by line u s clock None = refl
 time_by line u s clock (Some w) = refl
 
-pub answer_now : (line : Line) (z number : ℕ) (s : Story) → IsLineOfOneZone line → suc z ≡ zone_id line → ((t : ℕ) → Sound line t s) → (m : Msg) (ways : List ZoneTrain) → Grown line s (now_with (zone_id line) s m) ways
+pub answer_now : (line : Line) (z number : ℕ) (s : Story) → IsLineOfOneZone line → suc z ≡ zone_id line → ((t : ℕ) → Sound line t s) → (m : Msg) (ways : List Controlled) → Grown line s (now_with (zone_id line) s m) ways
     → zone_takes line (zone_id line) 0 s m ≡ zone_answer line (zone_id line) (now_with (zone_id line) s m) ways m
 answer_now line z number s one zone sound (msg.EntryAsk u time long error speed equipped step) ways g =
     let m = msg.EntryAsk u time long error speed equipped step in
@@ -64,9 +66,8 @@ answer_now line z number s one zone sound (msg.Time time u) ways g =
     let n = now_with (zone_id line) s (msg.Time time u) in
     let z0 = zone_id line in
     ap (λ (b : Bool). zone_time b (counted line u.0 s) (last_issued u.0 s) u (way line z0 u.0 s)) (sym (way_is_known line z0 u.0 s))
-    ∙ (time_by line u s n (way line z0 u.0 s) ∙ ap (λ (x : Option ZoneTrain). again_found u x) (sym (g.found u.0)))
-answer_now line z number s one zone sound (msg.Answer u time n taken) ways g = refl
-answer_now line z number s one zone sound (msg.Auth u n mark path) ways g = refl
+    ∙ (time_by line u s n (way line z0 u.0 s) ∙ ap (λ (x : Option Controlled). again_found u x) (sym (g.found u.0)))
+answer_now line z number s one zone sound _ ways g = refl
 
 -- An answer that the zone takes.
 module _ (line : Line) (z number : ℕ) (u : TrainId) (time n : ℕ) (taken : Bool) (e : Effect) (s : Story) (one : IsLineOfOneZone line) (zone : suc z ≡ zone_id line) (sound : (t : ℕ) → Sound line t s)
@@ -93,20 +94,20 @@ module _ (line : Line) (z number : ℕ) (u : TrainId) (time n : ℕ) (taken : Bo
       let end = end_same line t x s (silent t) (sound t) (after t) c c2 (zone_heads t z number m e s) in
       let g : grants_entry x.actor t x ≡ false = ap (λ (y : ℕ). grants_entry y t x) zone ∙ none t in
       let counts = counted_answered line t x s (sound t).authorized.unshrunk 0 u time n taken refl its g (ap (λ (y : ℕ). controls y t s) zone ∙ c) in
-      ap (λ (y : Option ZoneTrain). mapped (answer (seg_len line) n taken) y) (grown_is line m s t one (sound t) c)
+      ap (λ (y : Option Controlled). mapped (answer (seg_len line) n taken) y) (grown_is line m s t one (sound t) c)
       ∙ sym (behind_unused line z number m e s one zone t (sound t) (after t) c (none t) end refl
       ∙ (ap (λ (q : ℕ). Some (kept_train len t f (longest_route line t s) lo hi (longest_end line t s) (now_with (zone_id line) s m) (report_time line (zone_id line) t s) q (counted line t (x ∷ s)))) (last_quiet t x s (silent t))
       ∙ ap (λ (q : ℕ). Some (kept_train len t f (longest_route line t s) lo hi (longest_end line t s) (now_with (zone_id line) s m) (report_time line (zone_id line) t s) (last_issued t s) q)) counts)))
       (λ o.
-      ap (λ (y : Option ZoneTrain). mapped (answer (seg_len line) n taken) (mapped (grown_train (now_with (zone_id line) s m)) y)) (no_train line u.0 s o)
+      ap (λ (y : Option Controlled). mapped (answer (seg_len line) n taken) (mapped (grown_train (now_with (zone_id line) s m)) y)) (no_train line u.0 s o)
       ∙ sym (no_train line u.0 (x ∷ s) (controls_same (zone_id line) u.0 x s (none u.0) ∙ o)))
 
-  pub answered_moves : (p : Plain) (ways : List ZoneTrain) → Linked line s p → Grown line s (now_with (zone_id line) s m) ways → ZoneMoves line s (zone_made z number m e) (change_way u.0 (answer (seg_len line) n taken) ways)
+  pub answered_moves : (p : Plain) (ways : List Controlled) → Linked line s p → Grown line s (now_with (zone_id line) s m) ways → ZoneMoves line s (zone_made z number m e) (change_way u.0 (answer (seg_len line) n taken) ways)
   answered_moves p ways k g =
-      stay_moves line x s p (change_way u.0 (answer (seg_len line) n taken) ways) one k sound after (silent_stays line x s sound after none (λ v. zone_heads v z number m e s) silent)
+      stay_moves line x s p (change_way u.0 (answer (seg_len line) n taken) ways) one k sound after (silent_stays line x s sound after (λ v. zone_heads v z number m e s) silent)
       (λ v. by_test (nat_eq u.0 v)
       (λ its. subst (λ (i : ℕ). find_way i (change_way u.0 (answer (seg_len line) n taken) ways) ≡ zone_train line i (x ∷ s)) (eqb-true u.0 v its)
-      (way_change u.0 (answer (seg_len line) n taken) ways (λ w. refl) ∙ (ap (λ (y : Option ZoneTrain). mapped (answer (seg_len line) n taken) y) (g.found u.0) ∙ answered_own)))
+      (way_change u.0 (answer (seg_len line) n taken) ways (λ w. refl) ∙ (ap (λ (y : Option Controlled). mapped (answer (seg_len line) n taken) y) (g.found u.0) ∙ answered_own)))
       (λ o. way_other v u.0 (answer (seg_len line) n taken) ways (λ w. refl) o
       ∙ (g.found v ∙ sym (zone_silent line z number m e s one zone v (sound v) (after v) (silent v) (none v) refl (rw o refl)))))
       (ids_change u.0 (answer (seg_len line) n taken) ways (λ w. refl) ∙ g.known)

@@ -17,22 +17,22 @@ use Rattle.definitions.specs.Longest.{counted, longest_end, longest_route}
 use Rattle.definitions.specs.Fronts.{possible_front, is_used, uses_report, report_time}
 use Rattle.definitions.specs.Steps.{Effect}
 use Rattle.definitions.specs.Safe.{IsLineOfOneZone}
-use Rattle.plain_state.specs.ZoneTrain.{ZoneTrain}
+use Rattle.plain_state.specs.declared.Controlled.{Controlled}
 use Rattle.plain_state.specs.Zone.{grown_train}
-use Rattle.plain_state.specs.Plain.{zone_id}
+use Rattle.definitions.specs.Zones.{zone_id}
 use Rattle.plain_state.specs.Relation.{zone_train}
-use Rattle.motion_laws.proofs.Controls.{controls_same}
+use Rattle.event_laws.proofs.Controls.{controls_same, known_same, now_acted}
 use Rattle.sound_laws.proofs.Sound.{Sound}
-use Rattle.front_laws.proofs.Front_moves.{known_same, now_acted}
 use Rattle.front_laws.proofs.Front_numbers.{grown_to, fronts_left}
 use Rattle.front_laws.proofs.Front_ends.{ends_grown, ends_narrowed}
 use Rattle.front_laws.proofs.Route_goes_on.{route_stays}
 use Rattle.front_laws.proofs.Unshrunk.{none_takes, answers, counted_unanswered}
-use Rattle.authority_laws.proofs.Last_issued.{last_quiet}
+use Rattle.event_laws.proofs.Last_issued.{last_quiet}
 use Rattle.link_laws.proofs.World_trains.{mapped}
 use Rattle.link_laws.proofs.Way_of.{way_of}
 use Rattle.link_laws.proofs.Kept_train.{kept_train, zone_kept, kept_grown, zone_behind}
-use Rattle.link_laws.proofs.Unissued.{NoAuth, end_same}
+use Rattle.event_laws.proofs.Issued.{NoAuth}
+use Rattle.link_laws.proofs.Unissued.{end_same}
 use Rattle.link_laws.proofs.Zone_idle.{no_train}
 use Rattle.link_laws.proofs.Zone_moves.{zone_made, zone_heads}
 
@@ -59,9 +59,10 @@ pub grown_is : (line : Line) (m : Msg) (s : Story) (t : ℕ) → IsLineOfOneZone
     (now_with (zone_id line) s m) (report_time line (zone_id line) t s) (last_issued t s) (counted line t s))
 grown_is line m s t one sound c =
     let w = way_of line t s one.valid sound c in
-    ap (λ (y : Option ZoneTrain). mapped (grown_train (now_with (zone_id line) s m)) y) (zone_kept line t s one.valid sound c)
-    ∙ ap (λ (y : ZoneTrain). Some y) (kept_grown (now_with (zone_id line) s m) (seg_len line) t (known_facts (zone_id line) t s) (longest_route line t s) (sound.fronts c).lo (sound.fronts c).hi (longest_end line t s)
-    (now_of (zone_id line) s) (report_time line (zone_id line) t s) (last_issued t s) (counted line t s) w.ordered w.within)
+    let p = w.order in let q = w.ordered in let r = w.within in
+    ap (λ (y : Option Controlled). mapped (grown_train (now_with (zone_id line) s m)) y) (zone_kept line t s one.valid sound c)
+    ∙ ap (λ (y : Controlled). Some y) (kept_grown (now_with (zone_id line) s m) (seg_len line) t (known_facts (zone_id line) t s) (longest_route line t s) (sound.fronts c).lo (sound.fronts c).hi (longest_end line t s)
+    (now_of (zone_id line) s) (report_time line (zone_id line) t s) (last_issued t s) (counted line t s) q r (omega (arith, p, q, r)) w.room)
 
 module _ (line : Line) (z number : ℕ) (m : Msg) (e : Effect) (s : Story) (one : IsLineOfOneZone line) (zone : suc z ≡ zone_id line) (t : ℕ) (sound : Sound line t s) (after : Sound line t (zone_made z number m e ∷ s)) where
   abbrev x : Made
@@ -119,7 +120,7 @@ module _ (line : Line) (z number : ℕ) (m : Msg) (e : Effect) (s : Story) (one 
       ∙ (ap (λ (q : ℕ). Some (kept_train len t k (longest_route line t s) (sound.fronts c).lo hi (longest_end line t s) (now_with (zone_id line) s m) (report_time line (zone_id line) t s) q (counted line t (x ∷ s)))) last
       ∙ (ap (λ (q : ℕ). Some (kept_train len t k (longest_route line t s) (sound.fronts c).lo hi (longest_end line t s) (now_with (zone_id line) s m) (report_time line (zone_id line) t s) (last_issued t s) q)) counts
       ∙ sym (grown_is line m s t one sound c))))
-      (λ n. no_train line t (x ∷ s) (controls_same (zone_id line) t x s none ∙ n) ∙ sym (ap (λ (y : Option ZoneTrain). mapped (grown_train (now_with (zone_id line) s m)) y) (no_train line t s n)))
+      (λ n. no_train line t (x ∷ s) (controls_same (zone_id line) t x s none ∙ n) ∙ sym (ap (λ (y : Option Controlled). mapped (grown_train (now_with (zone_id line) s m)) y) (no_train line t s n)))
 
   -- and of the train nothing is issued
   pub zone_silent : NoAuth t e.issued → grants_entry (zone_id line) t (zone_made z number m e) ≡ false → is_used line (zone_id line) t s (possible_front line (zone_id line) t s) m ≡ false → answers t (Some (0, m)) ≡ false

@@ -11,20 +11,20 @@ use Rattle.definitions.specs.Control.{grants_entry, asker, controls, known_facts
 use Rattle.definitions.specs.Longest.{counted, longest_end, longest_route}
 use Rattle.definitions.specs.Fronts.{report_time}
 use Rattle.definitions.specs.Safe.{IsLineOfOneZone}
-use Rattle.plain_state.specs.Plain.{zone_id}
+use Rattle.definitions.specs.Zones.{zone_id}
 use Rattle.plain_state.specs.Relation.{zone_train_of, zone_train}
-use Rattle.motion_laws.proofs.Controls.{controls_same}
-use Rattle.motion_laws.proofs.Known_trains.{known_still}
+use Rattle.event_laws.proofs.Controls.{controls_same, known_same, now_idle, report_idle}
+use Rattle.event_laws.proofs.Known_trains.{known_still}
 use Rattle.sound_laws.proofs.Sound.{Sound}
-use Rattle.front_laws.proofs.Entries.{counted_else}
-use Rattle.front_laws.proofs.Front_moves.{known_same, now_idle}
+use Rattle.event_laws.proofs.Entries.{counted_else}
 use Rattle.front_laws.proofs.Front_ends.{ends_idle}
 use Rattle.front_laws.proofs.Route_goes_on.{route_stays}
-use Rattle.authority_laws.proofs.Last_issued.{last_quiet}
+use Rattle.event_laws.proofs.Last_issued.{last_quiet}
 use Rattle.link_laws.proofs.One_zone.{zone_positive}
 use Rattle.link_laws.proofs.Values.{no_way}
 use Rattle.link_laws.proofs.Kept_train.{kept_train, zone_kept, zone_behind}
-use Rattle.link_laws.proofs.Unissued.{NoAuth, end_same, world_controls, report_idle}
+use Rattle.event_laws.proofs.Issued.{NoAuth}
+use Rattle.link_laws.proofs.Unissued.{end_same, world_controls}
 
 pub no_train : (line : Line) (t : ℕ) (s : Story) → controls (zone_id line) t s ≡ false → zone_train line t s ≡ None
 no_train line t s n = ap (λ (w : Option PlainWay). zone_train_of line (zone_id line) t s w) (no_way line (zone_id line) t s n)

@@ -5,7 +5,7 @@ use Rattle.std.specs.Prelude.{nat_eq, is_some}
 use Rattle.track_points.proofs.Some.{by_test}
 use Rattle.definitions.specs.declared.message.Msg.{Msg}
 use Rattle.definitions.specs.declared.outcome.Outcome.{Outcome}
-use Rattle.definitions.specs.Track.{Line}
+use Rattle.definitions.specs.Track.{Line, seg_len}
 use Rattle.definitions.specs.Ways.{PlainWay}
 use Rattle.definitions.specs.Story.{Entry as Made, Story}
 use Rattle.definitions.specs.Control.{grants_entry, controls, now_of, now_with, message_time}
@@ -13,11 +13,12 @@ use Rattle.definitions.specs.Fronts.{possible_front, is_used, report_time, repor
 use Rattle.definitions.specs.Authority.{way}
 use Rattle.definitions.specs.Steps.{Effect, nothing, zone_takes, falls_silent, alarm, alarms, zone_step}
 use Rattle.definitions.specs.Safe.{IsLineOfOneZone}
-use Rattle.plain_state.specs.ZoneTrain.{ZoneTrain}
+use Rattle.plain_state.specs.declared.Controlled.{Controlled}
 use Rattle.plain_state.specs.Zone.{PlainZone, find_way, report_or, report_of, is_alarmed, alarm_of, plain_alarms, ways_after, zone_answer, zone_heeds, clock_after, trains_grown, trains_stepped, zone_gives, zone_take_effect, zone_take_next, grown_train}
-use Rattle.plain_state.specs.Plain.{Plain, zone_id, by_zone as zone_next}
+use Rattle.definitions.specs.Zones.{zone_id}
+use Rattle.plain_state.specs.Plain.{Plain, by_zone as zone_next}
 use Rattle.plain_state.specs.Relation.{zone_train_of, ZoneLinked, Linked}
-use Rattle.motion_laws.proofs.Controls.{controls_same}
+use Rattle.event_laws.proofs.Controls.{controls_same}
 use Rattle.sound_laws.proofs.Sound.{Sound}
 use Rattle.link_laws.proofs.One_zone.{the_zone}
 use Rattle.link_laws.proofs.Zone_trains.{filtered_is}
@@ -29,11 +30,11 @@ use Rattle.link_laws.proofs.Zone_behind.{report_unused, report_used}
 use Rattle.link_laws.proofs.Zone_answers.{answer_now}
 use Rattle.link_laws.proofs.Zone_takes.{take_moves}
 
-report_by : (line : Line) (t : ℕ) (s : Story) (w : Option PlainWay) (x : ZoneTrain) → zone_train_of line (zone_id line) t s w ≡ Some x → (x.report ≡ report_time line (zone_id line) t s) × (x.id.0 ≡ t)
+report_by : (line : Line) (t : ℕ) (s : Story) (w : Option PlainWay) (x : Controlled) → zone_train_of line (zone_id line) t s w ≡ Some x → (x.report ≡ report_time line (zone_id line) t s) × (x.id.0 ≡ t)
 report_by line t s None x e = absurd cc
-report_by line t s (Some w) x e = (ap (λ (y : Option ZoneTrain). report_or y) (sym e), ap (λ (y : Option ZoneTrain). id_or y) (sym e))
+report_by line t s (Some w) x e = (ap (λ (y : Option Controlled). report_or y) (sym e), ap (λ (y : Option Controlled). id_or y) (sym e))
   where
-    id_or : Option ZoneTrain → ℕ
+    id_or : Option Controlled → ℕ
     id_or None = t
     id_or (Some y) = y.id.0
 
@@ -51,10 +52,10 @@ module _ (line : Line) (z number : ℕ) (m : Msg) (s : Story) (p : Plain) (one :
   abbrev now_ : ℕ
   now_ = now_with (zone_id line) s m
 
-  abbrev ways : List ZoneTrain
+  abbrev ways : List Controlled
   ways = map (grown_train now_) own.trains
 
-  abbrev behind : List ZoneTrain
+  abbrev behind : List Controlled
   behind = ways_after line (zone_id line) now_ ways m
 
   abbrev e : Effect
@@ -78,10 +79,10 @@ module _ (line : Line) (z number : ℕ) (m : Msg) (s : Story) (p : Plain) (one :
     report_behind : (t : ℕ) → controls (zone_id line) t s ≡ true → report_of t behind ≡ report_time_with line (zone_id line) t s m
     report_behind t c =
         let c2 = controls_same (zone_id line) t x s (grants t c) ∙ c in
-        ap (λ (y : Option ZoneTrain). report_or y) (moves.found t)
+        ap (λ (y : Option Controlled). report_or y) (moves.found t)
         ∙ (report_some line t (x ∷ s) (way line (zone_id line) t (x ∷ s)) (way_is_known line (zone_id line) t (x ∷ s) ∙ c2) ∙ report_next t c)
 
-    alarmed_is : (t : ℕ) (y : ZoneTrain) → find_way t own.trains ≡ Some y → is_alarmed line (now_of (zone_id line) s) now_ behind y ≡ falls_silent line (zone_id line) s m t
+    alarmed_is : (t : ℕ) (y : Controlled) → find_way t own.trains ≡ Some y → is_alarmed line (now_of (zone_id line) s) now_ behind y ≡ falls_silent line (zone_id line) s m t
     alarmed_is t y found =
         let c = found_controls line s one.valid own.trains told.ways sound t y found in
         let r = report_by line t s (way line (zone_id line) t s) y (sym (told.ways t) ∙ found) in
@@ -98,20 +99,20 @@ module _ (line : Line) (z number : ℕ) (m : Msg) (s : Story) (p : Plain) (one :
     module _ (heeds : zone_heeds line own 0 m ≡ true) where
       stepped_is : trains_stepped line own 0 m ≡ behind
       stepped_is =
-          ap (λ (b : Bool). if b then ways_after line own.id (clock_after own.clock m) (trains_grown own m) m else trains_grown own m) heeds
-          ∙ (ap (λ (i : ℕ). ways_after line i (clock_after own.clock m) (trains_grown own m) m) told.id
+          ap (λ (b : Bool). if b then ways_after line own.id (clock_after own.clock m) (trains_grown line own m) m else trains_grown line own m) heeds
+          ∙ (ap (λ (i : ℕ). ways_after line i (clock_after own.clock m) (trains_grown line own m) m) told.id
           ∙ ap (λ (c : ℕ). ways_after line (zone_id line) (clock_after c m) (map (grown_train (clock_after c m)) own.trains) m) told.clock)
 
       gives_is : zone_gives line own 0 m ≡ zone_takes line (zone_id line) 0 s m
       gives_is =
-          ap (λ (b : Bool). if b then zone_answer line own.id (clock_after own.clock m) (trains_grown own m) m else nothing) heeds
-          ∙ (ap (λ (i : ℕ). zone_answer line i (clock_after own.clock m) (trains_grown own m) m) told.id
+          ap (λ (b : Bool). if b then zone_answer line own.id (clock_after own.clock m) (trains_grown line own m) m else nothing) heeds
+          ∙ (ap (λ (i : ℕ). zone_answer line i (clock_after own.clock m) (trains_grown line own m) m) told.id
           ∙ (ap (λ (c : ℕ). zone_answer line (zone_id line) (clock_after c m) (map (grown_train (clock_after c m)) own.trains) m) told.clock
           ∙ sym (answer_now line z number s one zone sound m ways (grown_of line s own now_ told))))
 
       lines_are : plain_alarms line own.id own.clock (clock_after own.clock m) own.trains (trains_stepped line own 0 m) ≡ alarms line (zone_id line) s m
       lines_are =
-          ap (λ (xs : List ZoneTrain). plain_alarms line own.id own.clock (clock_after own.clock m) own.trains xs) stepped_is
+          ap (λ (xs : List Controlled). plain_alarms line own.id own.clock (clock_after own.clock m) own.trains xs) stepped_is
           ∙ (ap (λ (i : ℕ). plain_alarms line i own.clock (clock_after own.clock m) own.trains behind) told.id
           ∙ (ap (λ (c : ℕ). plain_alarms line (zone_id line) c (clock_after c m) own.trains behind) told.clock ∙ alarms_are))
 
@@ -124,5 +125,5 @@ module _ (line : Line) (z number : ℕ) (m : Msg) (s : Story) (p : Plain) (one :
 
       pub zone_take_linked : Linked line (zone_made z number m e ∷ s) (zone_next p (zone_id line) (zone_take_next line own 0 m) (zone_take_effect line own 0 m))
       zone_take_linked =
-          subst (λ (trains : List ZoneTrain). Linked line (x ∷ s) (zone_next p (zone_id line) (record { id = own.id; clock = clock_after own.clock m; trains = trains }) (zone_take_effect line own 0 m))) (sym stepped_is)
+          subst (λ (trains : List Controlled). Linked line (x ∷ s) (zone_next p (zone_id line) (record { id = own.id; clock = clock_after own.clock m; trains = trains }) (zone_take_effect line own 0 m))) (sym stepped_is)
           (zone_linked line z number m e (zone_take_effect line own 0 m) s p behind one zone k moves after (ap (λ (y : Effect). y.issued) (sym zone_taken)))

@@ -12,19 +12,19 @@ use Rattle.definitions.specs.Account.{with_at}
 use Rattle.definitions.specs.Longest.{longest_end, longest_route}
 use Rattle.definitions.specs.Steps.{Effect}
 use Rattle.definitions.specs.Safe.{IsLineOfOneZone}
-use Rattle.plain_state.specs.ZoneTrain.{ZoneTrain}
+use Rattle.plain_state.specs.declared.Controlled.{Controlled}
 use Rattle.plain_state.specs.Zone.{PlainZone, find_way, hold_has, clock_after}
-use Rattle.plain_state.specs.Plain.{Plain, zone_id, by_zone as zone_next}
+use Rattle.definitions.specs.Zones.{zone_id}
+use Rattle.plain_state.specs.Plain.{Plain, by_zone as zone_next}
 use Rattle.plain_state.specs.Relation.{zone_train, ids, Distinct, ZoneLinked, Linked}
-use Rattle.journey_laws.proofs.Journey.{head_still}
+use Rattle.event_laws.proofs.Still.{head_still, unasked_same, off_same, authorized_same, as_many, clock_still}
 use Rattle.sound_laws.proofs.Sound.{Sound}
-use Rattle.front_laws.proofs.Front_moves.{now_acted}
+use Rattle.event_laws.proofs.Controls.{now_acted}
 use Rattle.link_laws.proofs.One_zone.{the_zone, each_zone}
 use Rattle.link_laws.proofs.Way_of.{way_of}
 use Rattle.link_laws.proofs.Way_marks.{way_number}
 use Rattle.link_laws.proofs.Shown.{found_controls, found_kept, fronts_are, holds_are}
-use Rattle.link_laws.proofs.World_moves.{world_same, unasked_same, off_same, authorized_same, as_many, posted_sent}
-use Rattle.link_laws.proofs.World_linked.{clock_still}
+use Rattle.link_laws.proofs.World_moves.{world_same, posted_sent}
 use Rattle.link_laws.proofs.Auth_linked.{take_made}
 
 -- the message that the zone takes from the world, and what it comes to
@@ -36,7 +36,7 @@ pub zone_heads : (t z number : ℕ) (m : Msg) (e : Effect) (s : Story) → head 
 zone_heads t z number m e s = let h = head_still t (zone_made z number m e) s refl in omega (arith, h)
 
 -- the trains behind it
-pub record ZoneMoves (line : Line) (s : Story) (x : Made) (trains : List ZoneTrain) : Type 0 where
+pub record ZoneMoves (line : Line) (s : Story) (x : Made) (trains : List Controlled) : Type 0 where
   pub found : (t : ℕ) → find_way t trains ≡ zone_train line t (x ∷ s)
   pub known : ids trains ≡ known_trains (zone_id line) (x ∷ s)
   pub distinct : Distinct trains
@@ -48,7 +48,7 @@ unfolding greatest_issued
 last_next t x s h k = omega (arith, h, k)
 
 -- the zone behind it
-zone_moved : (line : Line) (z number : ℕ) (m : Msg) (e : Effect) (s : Story) (y : PlainZone) (trains : List ZoneTrain) → IsLineOfOneZone line → suc z ≡ zone_id line → ZoneLinked line (zone_id line) s y → ZoneMoves line s (zone_made z number m e) trains
+zone_moved : (line : Line) (z number : ℕ) (m : Msg) (e : Effect) (s : Story) (y : PlainZone) (trains : List Controlled) → IsLineOfOneZone line → suc z ≡ zone_id line → ZoneLinked line (zone_id line) s y → ZoneMoves line s (zone_made z number m e) trains
     → ((t : ℕ) → Sound line t (zone_made z number m e ∷ s)) → ZoneLinked line (zone_id line) (zone_made z number m e ∷ s) (record { id = y.id; clock = clock_after y.clock m; trains = trains })
 zone_moved line z number m e s y trains one zone k moves after =
     let x = zone_made z number m e in
@@ -70,13 +70,13 @@ zone_moved line z number m e s y trains one zone k moves after =
           let within = v.within in
           let n = way_number (seg_len line) (longest_route line t (x ∷ s)) (((after t).fronts c).lo - (known_facts (zone_id line) t (x ∷ s)).long) (longest_end line t (x ∷ s)) (omega (arith, order, ordered, within)) v.room in
           let b = moves.steps t c in
-          subst (λ (u : ZoneTrain). u.way.mark + length u.way.path.steps.items ≤ 24 * length (x ∷ s)) is2 (omega (arith, n, b));
+          subst (λ (u : Controlled). u.way.mark + length u.way.path.steps.items ≤ 24 * length (x ∷ s)) is2 (omega (arith, n, b));
     }
 
 at_own : (z : ℕ) (y : PlainZone) (zones : ℕ → PlainZone) → y ≡ with_at z y zones z
 at_own z y zones = let same : nat_eq z z ≡ true = grind (arith, nat_tests) in rw same refl
 
-pub zone_linked : (line : Line) (z number : ℕ) (m : Msg) (e y : Effect) (s : Story) (p : Plain) (trains : List ZoneTrain) → IsLineOfOneZone line → suc z ≡ zone_id line → Linked line s p → ZoneMoves line s (zone_made z number m e) trains
+pub zone_linked : (line : Line) (z number : ℕ) (m : Msg) (e y : Effect) (s : Story) (p : Plain) (trains : List Controlled) → IsLineOfOneZone line → suc z ≡ zone_id line → Linked line s p → ZoneMoves line s (zone_made z number m e) trains
     → ((t : ℕ) → Sound line t (zone_made z number m e ∷ s)) → y.issued ≡ e.issued
     → Linked line (zone_made z number m e ∷ s) (zone_next p (zone_id line) (record { id = (p.zones (zone_id line)).id; clock = clock_after (p.zones (zone_id line)).clock m; trains = trains }) y)
 zone_linked line z number m e y s p trains one zone k moves after is =

@@ -1,8 +1,6 @@
 -- The zone's trains follow any message that the zone takes and heeds.
 use Rattle.std.proofs.Common.{◌≡◌, ℕ, suc, ◌-◌, List, [], ◌∷◌, Option, Some, None, Bool, true, false, ◌&&◌, refl, sym, ◌∙◌, ap, subst}
-use Rattle.std.proofs.Math.Bool.{and-false}
 use Rattle.std.specs.Prelude.{nat_eq, nat_lt, is_some}
-use Rattle.std.specs.List.{list_any}
 use Rattle.arrayvec.specs.ArrayVec.{ArrayVec}
 use Rattle.track_points.specs.declared.ids.DirSeg.{DirSeg}
 use Rattle.track_points.specs.declared.ids.TrainId.{TrainId}
@@ -13,26 +11,26 @@ use Rattle.definitions.specs.declared.outcome.Outcome.{Outcome}
 use Rattle.definitions.specs.Track.{Line, seg_len}
 use Rattle.definitions.specs.Ways.{PlainWay, way_between}
 use Rattle.definitions.specs.Story.{Story}
-use Rattle.definitions.specs.World.{is_auth}
 use Rattle.definitions.specs.Control.{controls, knows, knows_most, known_facts, now_with, last_issued}
 use Rattle.definitions.specs.Longest.{counted, longest_end, longest_route}
-use Rattle.definitions.specs.Fronts.{possible_front, is_used, report_time, silent_by}
+use Rattle.definitions.specs.Fronts.{report_time, silent_by}
 use Rattle.definitions.specs.Authority.{way, holder_of}
 use Rattle.definitions.specs.Limit.{Reach, path_of, reach_from, barring, limit}
-use Rattle.definitions.specs.Steps.{Effect, nothing, enter_or_held, zone_entry, zone_ask, zone_report, zone_time, zone_takes}
+use Rattle.definitions.specs.Steps.{Effect, nothing, enter_or_held, zone_entry, zone_ask, zone_time, zone_takes}
 use Rattle.definitions.specs.Safe.{IsLineOfOneZone}
-use Rattle.plain_state.specs.ZoneTrain.{ZoneTrain}
+use Rattle.event_laws.proofs.Answers.{report_none}
+use Rattle.plain_state.specs.declared.Controlled.{Controlled}
 use Rattle.plain_state.specs.Zone.{find_way, change_way, full, holder_plain, lengthened, entered_or, entered_way, ways_entered, ways_asked, uses_mark, reported_by, ways_after}
-use Rattle.plain_state.specs.Plain.{Plain, zone_id}
+use Rattle.definitions.specs.Zones.{zone_id}
+use Rattle.plain_state.specs.Plain.{Plain}
 use Rattle.plain_state.specs.Relation.{Linked}
-use Rattle.motion_laws.proofs.Issued.{AllIn}
-use Rattle.motion_laws.proofs.Controls.{controls_knows}
+use Rattle.event_laws.proofs.Issued.{NoAuth, no_issue}
+use Rattle.event_laws.proofs.Controls.{controls_knows}
 use Rattle.sound_laws.proofs.Sound.{Sound}
 use Rattle.link_laws.proofs.Zone_trains.{ids_change, distinct_change}
 use Rattle.link_laws.proofs.Zone_values.{Grown, known_now, full_now, holder_now, reach_now}
 use Rattle.link_laws.proofs.Way_of.{way_of}
 use Rattle.link_laws.proofs.Values.{no_way}
-use Rattle.link_laws.proofs.Unissued.{NoAuth}
 use Rattle.link_laws.proofs.Zone_moves.{zone_made, zone_heads, ZoneMoves}
 use Rattle.link_laws.proofs.Quiet_linked.{silent_stays, stay_moves, quiet_moves, again_moves}
 use Rattle.link_laws.proofs.Report_linked.{report_found}
@@ -44,19 +42,15 @@ use Rattle.link_laws.proofs.Zone_answers.{answered_moves}
 abbrev pub issuing : Effect → List Outcome → Effect
 issuing e lines = record { issued = e.issued; lines = lines }
 
-none_silent : (t : ℕ) (lines : List Outcome) → NoAuth t []
-unfolding AllIn
-none_silent t lines = tt
-
 module _ (line : Line) (z number : ℕ) (s : Story) (p : Plain) (one : IsLineOfOneZone line) (zone : suc z ≡ zone_id line) (k : Linked line s p) (sound : (t : ℕ) → Sound line t s) (lines : List Outcome) where
   abbrev AfterAll : Msg → Effect → Type 0
   AfterAll m e = (t : ℕ) → Sound line t (zone_made z number m (issuing e lines) ∷ s)
 
-  abbrev Moves : Msg → Effect → List ZoneTrain → Type 0
+  abbrev Moves : Msg → Effect → List Controlled → Type 0
   Moves m e trains = ZoneMoves line s (zone_made z number m (issuing e lines)) trains
 
   -- A request for entry.
-  module _ (u : TrainId) (time long error speed : ℕ) (equipped : Bool) (step : DirSeg) (ways : List ZoneTrain) (g : Grown line s (now_with (zone_id line) s (msg.EntryAsk u time long error speed equipped step)) ways) where
+  module _ (u : TrainId) (time long error speed : ℕ) (equipped : Bool) (step : DirSeg) (ways : List Controlled) (g : Grown line s (now_with (zone_id line) s (msg.EntryAsk u time long error speed equipped step)) ways) where
     abbrev entry_m : Msg
     entry_m = msg.EntryAsk u time long error speed equipped step
 
@@ -66,17 +60,12 @@ module _ (line : Line) (z number : ℕ) (s : Story) (p : Plain) (one : IsLineOfO
     abbrev after_entry : Bool → Bool → Option ℕ → Effect
     after_entry known most holder = zone_entry (zone_id line) known most room u long step holder
 
-    abbrev entry_ways : Bool → Bool → Option ℕ → List ZoneTrain
+    abbrev entry_ways : Bool → Bool → Option ℕ → List Controlled
     entry_ways known most holder = ways_entered (now_with (zone_id line) s entry_m) known most room u long error speed step holder ways
-
-    no_entry : (v : ℕ) → (nat_eq (suc z) (zone_id line) && (nat_eq u.0 v && false)) ≡ false
-    no_entry v = ap (λ (b : Bool). nat_eq (suc z) (zone_id line) && b) (and-false (nat_eq u.0 v)) ∙ and-false (nat_eq (suc z) (zone_id line))
 
     refused : (e : Effect) → e.issued ≡ [] → AfterAll entry_m e → Moves entry_m e ways
     refused e is after =
-        quiet_moves line z number entry_m (issuing e lines) s p ways one zone k sound after g
-        (λ v. ap (λ (issued : List (ℕ × Msg)). nat_eq (suc z) (zone_id line) && (nat_eq u.0 v && list_any (λ (y : ℕ × Msg). is_auth v y.1) issued)) is ∙ no_entry v)
-        (λ v. subst (λ (issued : List (ℕ × Msg)). NoAuth v issued) (sym is) (none_silent v lines)) (λ v. refl) (λ v. refl)
+        quiet_moves line z number entry_m (issuing e lines) s p ways one zone k sound after g (λ v. no_issue v e.issued is) (λ v. refl) (λ v. refl)
 
     by_holder : controls (zone_id line) u.0 s ≡ false → nat_lt room long ≡ false → (holder : Option ℕ) → AfterAll entry_m (enter_or_held (zone_id line) room u step holder)
         → Moves entry_m (enter_or_held (zone_id line) room u step holder) (entered_or holder (entered_way (now_with (zone_id line) s entry_m) u room long error speed step) ways)
@@ -98,10 +87,10 @@ module _ (line : Line) (z number : ℕ) (s : Story) (p : Plain) (one : IsLineOfO
         ap (λ (b : Bool). entry_ways b (full ways) (holder_plain line z0 ways step.seg.0)) (known_now line s one.valid sound n ways g u.0)
         ∙ (ap (λ (b : Bool). entry_ways (knows z0 u.0 s) b (holder_plain line z0 ways step.seg.0)) (full_now line s one.valid sound n ways g)
         ∙ ap (λ (h : Option ℕ). entry_ways (knows z0 u.0 s) (knows_most z0 s) h) (holder_now line s one.valid sound n ways g step.seg.0)) in
-        subst (λ (xs : List ZoneTrain). Moves entry_m (zone_takes line z0 0 s entry_m) xs) (sym same) (by_known (knows z0 u.0 s) (knows_most z0 s) (holder_of line z0 s step.seg.0) (controls_knows z0 u.0 s) after)
+        subst (λ (xs : List Controlled). Moves entry_m (zone_takes line z0 0 s entry_m) xs) (sym same) (by_known (knows z0 u.0 s) (knows_most z0 s) (holder_of line z0 s step.seg.0) (controls_knows z0 u.0 s) after)
 
   -- An ask.
-  module _ (u : TrainId) (time : ℕ) (steps : ArrayVec DirSeg) (to : ℕ) (ways : List ZoneTrain) (g : Grown line s (now_with (zone_id line) s (msg.Ask u time steps to)) ways) where
+  module _ (u : TrainId) (time : ℕ) (steps : ArrayVec DirSeg) (to : ℕ) (ways : List Controlled) (g : Grown line s (now_with (zone_id line) s (msg.Ask u time steps to)) ways) where
     abbrev ask_m : Msg
     ask_m = msg.Ask u time steps to
 
@@ -113,8 +102,7 @@ module _ (line : Line) (z number : ℕ) (s : Story) (p : Plain) (one : IsLineOfO
 
     denied : AfterAll ask_m nothing → Moves ask_m nothing ways
     denied after =
-        quiet_moves line z number ask_m (issuing nothing lines) s p ways one zone k sound after g
-        (λ v. and-false (nat_eq (suc z) (zone_id line))) (λ v. none_silent v lines) (λ v. refl) (λ v. refl)
+        quiet_moves line z number ask_m (issuing nothing lines) s p ways one zone k sound after g (λ v. no_issue v [] refl) (λ v. refl) (λ v. refl)
 
     granted : (c : controls (zone_id line) u.0 s ≡ true) → nat_eq reach.distance 0 ≡ false
         → AfterAll ask_m (ask_effect (Some (way_between (seg_len line) (longest_route line u.0 s) (((sound u.0).fronts c).lo - (known_facts (zone_id line) u.0 s).long) (longest_end line u.0 s))))
@@ -145,19 +133,16 @@ module _ (line : Line) (z number : ℕ) (s : Story) (p : Plain) (one : IsLineOfO
 
   -- A report, the time, and what comes to nothing.
 
-  report_issued : (u : TrainId) (m : Msg) → (zone_report line (zone_id line) s u m).issued ≡ []
-  report_issued u m = by_test (is_used line (zone_id line) u.0 s (possible_front line (zone_id line) u.0 s) m) (λ y. rw y refl) (λ n. rw n refl)
-
-  pub take_moves : (m : Msg) (ways : List ZoneTrain) → Grown line s (now_with (zone_id line) s m) ways → AfterAll m (zone_takes line (zone_id line) 0 s m)
+  pub take_moves : (m : Msg) (ways : List Controlled) → Grown line s (now_with (zone_id line) s m) ways → AfterAll m (zone_takes line (zone_id line) 0 s m)
       → Moves m (zone_takes line (zone_id line) 0 s m) (ways_after line (zone_id line) (now_with (zone_id line) s m) ways m)
   take_moves (msg.EntryAsk u time long error speed equipped step) ways g after = entry_moves u time long error speed equipped step ways g after
   take_moves (msg.Ask u time steps to) ways g after = asking_moves u time steps to ways g after
   take_moves (msg.Report u time mark offset integrity) ways g after =
       let m = msg.Report u time mark offset integrity in
       let e = issuing (zone_takes line (zone_id line) 0 s m) lines in
-      let silent : (v : ℕ) → NoAuth v e.issued = λ v. subst (λ (issued : List (ℕ × Msg)). NoAuth v issued) (sym (report_issued u m)) (none_silent v lines) in
+      let silent : (v : ℕ) → NoAuth v e.issued = λ v. no_issue v e.issued (report_none line (zone_id line) s u m) in
       stay_moves line (zone_made z number m e) s p (ways_after line (zone_id line) (now_with (zone_id line) s m) ways m) one k sound after
-      (silent_stays line (zone_made z number m e) s sound after (λ v. and-false (nat_eq (suc z) (zone_id line))) (λ v. zone_heads v z number m e s) silent)
+      (silent_stays line (zone_made z number m e) s sound after (λ v. zone_heads v z number m e s) silent)
       (report_found line z number u time mark offset integrity s one zone sound ways g e silent after)
       (by_test (uses_mark (find_way u.0 ways) mark)
       (λ y. rw y (ids_change u.0 (reported_by (seg_len line) time mark offset integrity) ways (λ x. refl) ∙ g.known))
@@ -169,7 +154,7 @@ module _ (line : Line) (z number : ℕ) (s : Story) (p : Plain) (one : IsLineOfO
     where
       quiet : AfterAll (msg.Time time u) nothing → Moves (msg.Time time u) nothing ways
       quiet now_after =
-          quiet_moves line z number (msg.Time time u) (issuing nothing lines) s p ways one zone k sound now_after g (λ v. and-false (nat_eq (suc z) (zone_id line))) (λ v. none_silent v lines) (λ v. refl) (λ v. refl)
+          quiet_moves line z number (msg.Time time u) (issuing nothing lines) s p ways one zone k sound now_after g (λ v. no_issue v [] refl) (λ v. refl) (λ v. refl)
 
       time_case : (b : Bool) (w : Option PlainWay) → controls (zone_id line) u.0 s ≡ b → way line (zone_id line) u.0 s ≡ w → AfterAll (msg.Time time u) (zone_time b (counted line u.0 s) (last_issued u.0 s) u w)
           → Moves (msg.Time time u) (zone_time b (counted line u.0 s) (last_issued u.0 s) u w) ways
@@ -181,6 +166,5 @@ module _ (line : Line) (z number : ℕ) (s : Story) (p : Plain) (one : IsLineOfO
           (λ later. by_test (nat_lt (counted line u.0 s) (last_issued u.0 s))
           (λ y. rw y (again_moves line z number time u s one zone sound c lines (λ t. rw y at (later t)) p ways k g))
           (λ n. rw n (quiet (λ t. rw n at (later t))))) now_after
-  take_moves (msg.Answer u time n taken) ways g after = answered_moves line z number u time n taken (issuing nothing lines) s one zone sound after (λ v. none_silent v lines) p ways k g
-  take_moves (msg.Auth u n mark path) ways g after =
-      quiet_moves line z number (msg.Auth u n mark path) (issuing nothing lines) s p ways one zone k sound after g (λ v. and-false (nat_eq (suc z) (zone_id line))) (λ v. none_silent v lines) (λ v. refl) (λ v. refl)
+  take_moves (msg.Answer u time n taken) ways g after = answered_moves line z number u time n taken (issuing nothing lines) s one zone sound after (λ v. no_issue v [] refl) p ways k g
+  take_moves m ways g after = quiet_moves line z number m (issuing nothing lines) s p ways one zone k sound after g (λ v. no_issue v [] refl) (λ v. refl) (λ v. refl)

@@ -6,18 +6,18 @@ use Rattle.std.specs.Prelude.{nat_eq, nat_lt}
 use Rattle.std.specs.List.{list_any, list_all}
 use Rattle.track_points.specs.declared.ids.TrainId.{TrainId}
 use Rattle.track_points.proofs.Some.{by_test}
-use Rattle.motion_laws.proofs.Known_trains.{placed}
+use Rattle.event_laws.proofs.Known_trains.{placed}
 use Rattle.definitions.specs.Authority.{least_of}
-use Rattle.plain_state.specs.ZoneTrain.{ZoneTrain}
+use Rattle.plain_state.specs.declared.Controlled.{Controlled}
 use Rattle.plain_state.specs.Zone.{find_way, change_way, placed_way, least_way}
 use Rattle.plain_state.specs.Relation.{ids, Distinct}
 use Rattle.link_laws.proofs.World_trains.{mapped}
 
-found_first : (x : ZoneTrain) (xs : List ZoneTrain) → find_way x.id.0 (x ∷ xs) ≡ Some x
+found_first : (x : Controlled) (xs : List Controlled) → find_way x.id.0 (x ∷ xs) ≡ Some x
 unfolding find_way
 found_first x xs = let e : nat_eq x.id.0 x.id.0 ≡ true = grind (arith, nat_tests) in rw e refl
 
-found_behind : (t : ℕ) (x y : ZoneTrain) (xs : List ZoneTrain) → find_way x.id.0 xs ≡ None → find_way t xs ≡ Some y → find_way t (x ∷ xs) ≡ Some y
+found_behind : (t : ℕ) (x y : Controlled) (xs : List Controlled) → find_way x.id.0 xs ≡ None → find_way t xs ≡ Some y → find_way t (x ∷ xs) ≡ Some y
 unfolding find_way
 found_behind t x y xs none found = by_test (nat_eq x.id.0 t)
     (λ a.
@@ -26,7 +26,7 @@ found_behind t x y xs none found = by_test (nat_eq x.id.0 t)
     absurd (let c : Some y ≡ None = sym found ∙ n in cc))
     (λ b. rw b found)
 
-pub any_is : (f : ZoneTrain → Bool) (g : ℕ → Bool) (xs : List ZoneTrain) → Distinct xs → ((t : ℕ) (x : ZoneTrain) → find_way t xs ≡ Some x → f x ≡ g t) → list_any f xs ≡ list_any g (ids xs)
+pub any_is : (f : Controlled → Bool) (g : ℕ → Bool) (xs : List Controlled) → Distinct xs → ((t : ℕ) (x : Controlled) → find_way t xs ≡ Some x → f x ≡ g t) → list_any f xs ≡ list_any g (ids xs)
 unfolding ids Distinct
 any_is f g [] d h = refl
 any_is f g (x ∷ xs) d h =
@@ -34,7 +34,7 @@ any_is f g (x ∷ xs) d h =
     let rest : list_any f xs ≡ list_any g (ids xs) = any_is f g xs d.1 (λ t y e. h t y (found_behind t x y xs d.0 e)) in
     rw (here, rest) refl
 
-pub least_is : (f : ZoneTrain → Bool) (g : ℕ → Bool) (xs : List ZoneTrain) → Distinct xs → ((t : ℕ) (x : ZoneTrain) → find_way t xs ≡ Some x → f x ≡ g t) → least_way f xs ≡ least_of g (ids xs)
+pub least_is : (f : Controlled → Bool) (g : ℕ → Bool) (xs : List Controlled) → Distinct xs → ((t : ℕ) (x : Controlled) → find_way t xs ≡ Some x → f x ≡ g t) → least_way f xs ≡ least_of g (ids xs)
 unfolding ids Distinct least_way least_of
 least_is f g [] d h = refl
 least_is f g (x ∷ xs) d h =
@@ -42,26 +42,26 @@ least_is f g (x ∷ xs) d h =
     let rest : least_way f xs ≡ least_of g (ids xs) = least_is f g xs d.1 (λ t y e. h t y (found_behind t x y xs d.0 e)) in
     rw (here, rest) refl
 
-pub ids_length : (xs : List ZoneTrain) → length (ids xs) ≡ length xs
+pub ids_length : (xs : List Controlled) → length (ids xs) ≡ length xs
 unfolding ids
 ids_length [] = refl
 ids_length (x ∷ xs) = ap (λ (n : ℕ). suc n) (ids_length xs)
 
 -- a test that every way passes that is found
-pub all_found : (f : ZoneTrain → Bool) (xs : List ZoneTrain) → Distinct xs → ((t : ℕ) (x : ZoneTrain) → find_way t xs ≡ Some x → f x ≡ true) → list_all f xs ≡ true
+pub all_found : (f : Controlled → Bool) (xs : List Controlled) → Distinct xs → ((t : ℕ) (x : Controlled) → find_way t xs ≡ Some x → f x ≡ true) → list_all f xs ≡ true
 unfolding Distinct
 all_found f [] d h = refl
 all_found f (x ∷ xs) d h =
     rw (h x.id.0 x (found_first x xs), all_found f xs d.1 (λ t y e. h t y (found_behind t x y xs d.0 e))) refl
 
-pub way_change : (t : ℕ) (f : ZoneTrain → ZoneTrain) (xs : List ZoneTrain) → ((x : ZoneTrain) → (f x).id ≡ x.id) → find_way t (change_way t f xs) ≡ mapped f (find_way t xs)
+pub way_change : (t : ℕ) (f : Controlled → Controlled) (xs : List Controlled) → ((x : Controlled) → (f x).id ≡ x.id) → find_way t (change_way t f xs) ≡ mapped f (find_way t xs)
 unfolding find_way change_way
 way_change t f [] keeps = refl
 way_change t f (x ∷ xs) keeps = by_test (nat_eq x.id.0 t)
     (λ y. let e : nat_eq (f x).id.0 t ≡ true = rw (keeps x) y in rw (y, e) refl)
     (λ n. rw (n, n) (way_change t f xs keeps))
 
-pub way_other : (t u : ℕ) (f : ZoneTrain → ZoneTrain) (xs : List ZoneTrain) → ((x : ZoneTrain) → (f x).id ≡ x.id) → nat_eq u t ≡ false → find_way t (change_way u f xs) ≡ find_way t xs
+pub way_other : (t u : ℕ) (f : Controlled → Controlled) (xs : List Controlled) → ((x : Controlled) → (f x).id ≡ x.id) → nat_eq u t ≡ false → find_way t (change_way u f xs) ≡ find_way t xs
 unfolding find_way change_way
 way_other t u f [] keeps other = refl
 way_other t u f (x ∷ xs) keeps other = by_test (nat_eq x.id.0 u)
@@ -71,21 +71,21 @@ way_other t u f (x ∷ xs) keeps other = by_test (nat_eq x.id.0 u)
     rw (y, e, g) refl)
     (λ n. rw n (by_test (nat_eq x.id.0 t) (λ y. rw y refl) (λ m. rw m (way_other t u f xs keeps other))))
 
-pub ids_change : (u : ℕ) (f : ZoneTrain → ZoneTrain) (xs : List ZoneTrain) → ((x : ZoneTrain) → (f x).id ≡ x.id) → ids (change_way u f xs) ≡ ids xs
+pub ids_change : (u : ℕ) (f : Controlled → Controlled) (xs : List Controlled) → ((x : Controlled) → (f x).id ≡ x.id) → ids (change_way u f xs) ≡ ids xs
 unfolding change_way ids
 ids_change u f [] keeps = refl
 ids_change u f (x ∷ xs) keeps = by_test (nat_eq x.id.0 u)
     (λ y. rw (y, keeps x) refl)
     (λ n. rw n (ap (λ (ys : List ℕ). x.id.0 ∷ ys) (ids_change u f xs keeps)))
 
-none_changed : (t u : ℕ) (f : ZoneTrain → ZoneTrain) (xs : List ZoneTrain) → ((x : ZoneTrain) → (f x).id ≡ x.id) → find_way t xs ≡ None → find_way t (change_way u f xs) ≡ None
+none_changed : (t u : ℕ) (f : Controlled → Controlled) (xs : List Controlled) → ((x : Controlled) → (f x).id ≡ x.id) → find_way t xs ≡ None → find_way t (change_way u f xs) ≡ None
 none_changed t u f xs keeps none = by_test (nat_eq u t)
     (λ y.
     let e : u ≡ t = eqb-true u t y in
-    ap (λ (i : ℕ). find_way t (change_way i f xs)) e ∙ (way_change t f xs keeps ∙ ap (λ (x : Option ZoneTrain). mapped f x) none))
+    ap (λ (i : ℕ). find_way t (change_way i f xs)) e ∙ (way_change t f xs keeps ∙ ap (λ (x : Option Controlled). mapped f x) none))
     (λ n. way_other t u f xs keeps n ∙ none)
 
-pub distinct_change : (u : ℕ) (f : ZoneTrain → ZoneTrain) (xs : List ZoneTrain) → ((x : ZoneTrain) → (f x).id ≡ x.id) → Distinct xs → Distinct (change_way u f xs)
+pub distinct_change : (u : ℕ) (f : Controlled → Controlled) (xs : List Controlled) → ((x : Controlled) → (f x).id ≡ x.id) → Distinct xs → Distinct (change_way u f xs)
 unfolding change_way Distinct
 distinct_change u f [] keeps d = d
 distinct_change u f (x ∷ xs) keeps d = by_test (nat_eq x.id.0 u)
@@ -93,8 +93,8 @@ distinct_change u f (x ∷ xs) keeps d = by_test (nat_eq x.id.0 u)
     (λ n. rw n (none_changed x.id.0 u f xs keeps d.0, distinct_change u f xs keeps d.1))
 
 -- what holds of one train as of another by its number, of those that pass, in order
-pub filtered_is : {A : Type 0} (f : ZoneTrain → Bool) (g : ℕ → Bool) (h : ZoneTrain → A) (k : ℕ → A) (xs : List ZoneTrain) → Distinct xs
-    → ((t : ℕ) (x : ZoneTrain) → find_way t xs ≡ Some x → f x ≡ g t) → ((x : ZoneTrain) → h x ≡ k x.id.0) → map h (filter f xs) ≡ map k (filter g (ids xs))
+pub filtered_is : {A : Type 0} (f : Controlled → Bool) (g : ℕ → Bool) (h : Controlled → A) (k : ℕ → A) (xs : List Controlled) → Distinct xs
+    → ((t : ℕ) (x : Controlled) → find_way t xs ≡ Some x → f x ≡ g t) → ((x : Controlled) → h x ≡ k x.id.0) → map h (filter f xs) ≡ map k (filter g (ids xs))
 unfolding ids Distinct
 filtered_is f g h k [] d e same = refl
 filtered_is f g h k (x ∷ xs) d e same =
@@ -106,27 +106,27 @@ filtered_is f g h k (x ∷ xs) d e same =
 
 -- All of them changed.
 
-pub way_mapped : (t : ℕ) (f : ZoneTrain → ZoneTrain) (xs : List ZoneTrain) → ((x : ZoneTrain) → (f x).id ≡ x.id) → find_way t (map f xs) ≡ mapped f (find_way t xs)
+pub way_mapped : (t : ℕ) (f : Controlled → Controlled) (xs : List Controlled) → ((x : Controlled) → (f x).id ≡ x.id) → find_way t (map f xs) ≡ mapped f (find_way t xs)
 unfolding find_way
 way_mapped t f [] keeps = refl
 way_mapped t f (x ∷ xs) keeps = by_test (nat_eq x.id.0 t)
     (λ y. let e : nat_eq (f x).id.0 t ≡ true = rw (keeps x) y in rw (y, e) refl)
     (λ n. let e : nat_eq (f x).id.0 t ≡ false = rw (keeps x) n in rw (n, e) (way_mapped t f xs keeps))
 
-pub ids_mapped : (f : ZoneTrain → ZoneTrain) (xs : List ZoneTrain) → ((x : ZoneTrain) → (f x).id ≡ x.id) → ids (map f xs) ≡ ids xs
+pub ids_mapped : (f : Controlled → Controlled) (xs : List Controlled) → ((x : Controlled) → (f x).id ≡ x.id) → ids (map f xs) ≡ ids xs
 unfolding ids
 ids_mapped f [] keeps = refl
 ids_mapped f (x ∷ xs) keeps = rw (keeps x, ids_mapped f xs keeps) refl
 
-pub distinct_mapped : (f : ZoneTrain → ZoneTrain) (xs : List ZoneTrain) → ((x : ZoneTrain) → (f x).id ≡ x.id) → Distinct xs → Distinct (map f xs)
+pub distinct_mapped : (f : Controlled → Controlled) (xs : List Controlled) → ((x : Controlled) → (f x).id ≡ x.id) → Distinct xs → Distinct (map f xs)
 unfolding Distinct
 distinct_mapped f [] keeps d = d
 distinct_mapped f (x ∷ xs) keeps d =
-    (ap (λ (i : ℕ). find_way i (map f xs)) (ap (λ (u : TrainId). u.0) (keeps x)) ∙ (way_mapped x.id.0 f xs keeps ∙ ap (λ (y : Option ZoneTrain). mapped f y) d.0), distinct_mapped f xs keeps d.1)
+    (ap (λ (i : ℕ). find_way i (map f xs)) (ap (λ (u : TrainId). u.0) (keeps x)) ∙ (way_mapped x.id.0 f xs keeps ∙ ap (λ (y : Option Controlled). mapped f y) d.0), distinct_mapped f xs keeps d.1)
 
 -- One put in its place.
 
-pub way_placed : (t : ℕ) (x : ZoneTrain) (xs : List ZoneTrain) → find_way x.id.0 xs ≡ None → find_way t (placed_way x xs) ≡ (if nat_eq x.id.0 t then Some x else find_way t xs)
+pub way_placed : (t : ℕ) (x : Controlled) (xs : List Controlled) → find_way x.id.0 xs ≡ None → find_way t (placed_way x xs) ≡ (if nat_eq x.id.0 t then Some x else find_way t xs)
 unfolding find_way placed_way
 way_placed t x [] none = refl
 way_placed t x (y ∷ xs) none = by_test (nat_lt x.id.0 y.id.0)
@@ -139,14 +139,14 @@ way_placed t x (y ∷ xs) none = by_test (nat_lt x.id.0 y.id.0)
     (λ a. let other : nat_eq x.id.0 t ≡ false = grind (arith, nat_tests) in rw (l, a, other) refl)
     (λ c. rw (l, c) rest)))
 
-pub ids_placed : (x : ZoneTrain) (xs : List ZoneTrain) → ids (placed_way x xs) ≡ placed x.id.0 (ids xs)
+pub ids_placed : (x : Controlled) (xs : List Controlled) → ids (placed_way x xs) ≡ placed x.id.0 (ids xs)
 unfolding ids placed_way placed
 ids_placed x [] = refl
 ids_placed x (y ∷ xs) = by_test (nat_lt x.id.0 y.id.0)
     (λ l. rw l refl)
     (λ l. rw (l, ids_placed x xs) refl)
 
-pub distinct_placed : (x : ZoneTrain) (xs : List ZoneTrain) → find_way x.id.0 xs ≡ None → Distinct xs → Distinct (placed_way x xs)
+pub distinct_placed : (x : Controlled) (xs : List Controlled) → find_way x.id.0 xs ≡ None → Distinct xs → Distinct (placed_way x xs)
 unfolding Distinct find_way placed_way
 distinct_placed x [] none d = (refl, d)
 distinct_placed x (y ∷ xs) none d = by_test (nat_lt x.id.0 y.id.0)

@@ -15,32 +15,33 @@ use Rattle.definitions.specs.Longest.{counted}
 use Rattle.definitions.specs.Fronts.{report_time, silent_by}
 use Rattle.definitions.specs.Authority.{way, way_has, held, least_of, holder_of}
 use Rattle.definitions.specs.Limit.{reach_from, path_of, barring, limit}
-use Rattle.plain_state.specs.ZoneTrain.{ZoneTrain}
+use Rattle.way_path.specs.Ways.{plain_way}
+use Rattle.plain_state.specs.declared.Controlled.{Controlled}
 use Rattle.plain_state.specs.Zone.{PlainZone, find_way, way_found, path_found, last_found, ready_found, silent_found, full, way_on, barring_plain, holder_plain, reach_plain, grown_train}
-use Rattle.plain_state.specs.Plain.{zone_id}
+use Rattle.definitions.specs.Zones.{zone_id}
 use Rattle.plain_state.specs.Relation.{ids, Distinct, zone_train_of, zone_train, ZoneLinked}
-use Rattle.motion_laws.proofs.Controls.{controls_knows}
+use Rattle.event_laws.proofs.Controls.{controls_knows}
 use Rattle.sound_laws.proofs.Sound.{Sound}
 use Rattle.link_laws.proofs.World_trains.{mapped}
 use Rattle.link_laws.proofs.Zone_trains.{any_is, least_is, ids_length, way_mapped, ids_mapped, distinct_mapped}
 use Rattle.link_laws.proofs.Values.{way_is_known, no_way_unknown}
 
 -- the trains of a zone, their fronts grown at a clock
-pub record Grown (line : Line) (s : Story) (clock : ℕ) (ways : List ZoneTrain) : Type 0 where
+pub record Grown (line : Line) (s : Story) (clock : ℕ) (ways : List Controlled) : Type 0 where
   pub found : (t : ℕ) → find_way t ways ≡ mapped (grown_train clock) (zone_train line t s)
   pub known : ids ways ≡ known_trains (zone_id line) s
   pub distinct : Distinct ways
 
 pub grown_of : (line : Line) (s : Story) (y : PlainZone) (clock : ℕ) → ZoneLinked line (zone_id line) s y → Grown line s clock (map (grown_train clock) y.trains)
 grown_of line s y clock k = record {
-  found = λ t. way_mapped t (grown_train clock) y.trains (λ x. refl) ∙ ap (λ (x : Option ZoneTrain). mapped (grown_train clock) x) (k.ways t);
+  found = λ t. way_mapped t (grown_train clock) y.trains (λ x. refl) ∙ ap (λ (x : Option Controlled). mapped (grown_train clock) x) (k.ways t);
   known = ids_mapped (grown_train clock) y.trains (λ x. refl) ∙ k.known;
   distinct = distinct_mapped (grown_train clock) y.trains (λ x. refl) k.distinct;
 }
 
 -- What is found of a train of the zone.
 module _ (line : Line) (t : ℕ) (s : Story) (clock : ℕ) where
-  abbrev train_by : Option PlainWay → Option ZoneTrain
+  abbrev train_by : Option PlainWay → Option Controlled
   train_by w = mapped (grown_train clock) (zone_train_of line (zone_id line) t s w)
 
   way_by : (w : Option PlainWay) → way_found (train_by w) ≡ w
@@ -61,41 +62,41 @@ module _ (line : Line) (t : ℕ) (s : Story) (clock : ℕ) where
   reach_by None asked to now_ held_ = refl
   reach_by (Some w) asked to now_ held_ = refl
 
-  id_by : (w : Option PlainWay) (x : ZoneTrain) → train_by w ≡ Some x → x.id.0 ≡ t
+  id_by : (w : Option PlainWay) (x : Controlled) → train_by w ≡ Some x → x.id.0 ≡ t
   id_by None x e = absurd cc
-  id_by (Some w) x e = ap (λ (y : Option ZoneTrain). id_or y) (sym e)
+  id_by (Some w) x e = ap (λ (y : Option Controlled). id_or y) (sym e)
     where
-      id_or : Option ZoneTrain → ℕ
+      id_or : Option Controlled → ℕ
       id_or None = t
       id_or (Some y) = y.id.0
 
-module _ (line : Line) (s : Story) (valid : is_line line ≡ true) (sound : (t : ℕ) → Sound line t s) (clock : ℕ) (ways : List ZoneTrain) (g : Grown line s clock ways) where
+module _ (line : Line) (s : Story) (valid : is_line line ≡ true) (sound : (t : ℕ) → Sound line t s) (clock : ℕ) (ways : List Controlled) (g : Grown line s clock ways) where
   pub way_now : (t : ℕ) → way_found (find_way t ways) ≡ way line (zone_id line) t s
-  way_now t = ap (λ (x : Option ZoneTrain). way_found x) (g.found t) ∙ way_by line t s clock (way line (zone_id line) t s)
+  way_now t = ap (λ (x : Option Controlled). way_found x) (g.found t) ∙ way_by line t s clock (way line (zone_id line) t s)
 
   pub last_now : (t : ℕ) → last_found (find_way t ways) ≡ last_issued t s
-  last_now t = ap (λ (x : Option ZoneTrain). last_found x) (g.found t)
+  last_now t = ap (λ (x : Option Controlled). last_found x) (g.found t)
       ∙ last_by line t s clock (way line (zone_id line) t s) (λ h. (sound t).authorized.unknown (no_way_unknown line (zone_id line) t s h))
 
   pub known_now : (t : ℕ) → is_some (find_way t ways) ≡ knows (zone_id line) t s
-  known_now t = ap (λ (x : Option ZoneTrain). is_some x) (g.found t) ∙ (some_by line t s clock (way line (zone_id line) t s) ∙ (way_is_known line (zone_id line) t s ∙ controls_knows (zone_id line) t s))
+  known_now t = ap (λ (x : Option Controlled). is_some x) (g.found t) ∙ (some_by line t s clock (way line (zone_id line) t s) ∙ (way_is_known line (zone_id line) t s ∙ controls_knows (zone_id line) t s))
 
   pub full_now : full ways ≡ knows_most (zone_id line) s
   full_now = ap (λ (n : ℕ). nat_le 256 n) (sym (ids_length ways)) ∙ ap (λ (xs : List ℕ). nat_le 256 (length xs)) g.known
 
   -- a way that is found is what is held for its train
-  held_found : (t : ℕ) (x : ZoneTrain) (point : Point) → find_way t ways ≡ Some x → held line (zone_id line) t s point ≡ (nat_eq (owner line point) (zone_id line) && path_has (layout line) x.way.path point)
+  held_found : (t : ℕ) (x : Controlled) (point : Point) → find_way t ways ≡ Some x → held line (zone_id line) t s point ≡ (nat_eq (owner line point) (zone_id line) && path_has (layout line) x.way.path point)
   held_found t x point found =
-      let is : way line (zone_id line) t s ≡ Some x.way = sym (way_now t) ∙ ap (λ (y : Option ZoneTrain). way_found y) found in
+      let is : way line (zone_id line) t s ≡ Some (plain_way x.way) = sym (way_now t) ∙ ap (λ (y : Option Controlled). way_found y) found in
       ap (λ (w : Option PlainWay). nat_eq (owner line point) (zone_id line) && way_has (layout line) w point) is
 
-  pub found_id : (t : ℕ) (x : ZoneTrain) → find_way t ways ≡ Some x → x.id.0 ≡ t
+  pub found_id : (t : ℕ) (x : Controlled) → find_way t ways ≡ Some x → x.id.0 ≡ t
   found_id t x found = id_by line t s clock (way line (zone_id line) t s) x (sym (g.found t) ∙ found)
 
   barring_now : (t : ℕ) (point : Point) → barring_plain line (zone_id line) ways t point ≡ barring line (zone_id line) t s point
   barring_now t point = by_test (nat_eq (owner line point) (zone_id line))
       (λ own.
-      let f : ZoneTrain → Bool = λ x. not (nat_eq x.id.0 t) && path_has (layout line) x.way.path point in
+      let f : Controlled → Bool = λ x. not (nat_eq x.id.0 t) && path_has (layout line) x.way.path point in
       let k : ℕ → Bool = λ u. not (nat_eq u t) && held line (zone_id line) u s point in
       let same : list_any f ways ≡ list_any k (ids ways) = any_is f k ways g.distinct (λ u x found.
       ap (λ (i : ℕ). not (nat_eq i t) && path_has (layout line) x.way.path point) (found_id u x found)
@@ -116,7 +117,7 @@ module _ (line : Line) (s : Story) (valid : is_line line ≡ true) (sound : (t :
       let z = zone_id line in
       let held_same : barring_plain line z ways t ≡ barring line z t s = fun_ext (λ point. barring_now t point) in
       let w = way line z t s in
-      ap (λ (x : Option ZoneTrain). reach_from line (ready_found x) (silent_found line now_ x) (path_found x) asked to (barring_plain line z ways t)) (g.found t)
+      ap (λ (x : Option Controlled). reach_from line (ready_found x) (silent_found line now_ x) (path_found x) asked to (barring_plain line z ways t)) (g.found t)
       ∙ (reach_by line t s clock w asked to now_ (barring_plain line z ways t)
       ∙ (ap (λ (b : Bool). reach_from line (b && nat_lt 0 (counted line t s)) (silent_by line (report_time line z t s) now_) (path_of w) asked to (barring_plain line z ways t)) (way_is_known line z t s)
       ∙ ap (λ (test : Point → Bool). reach_from line (controls z t s && nat_lt 0 (counted line t s)) (silent_by line (report_time line z t s) now_) (path_of w) asked to test) held_same))

@@ -1,43 +1,76 @@
--- A document that keeps to the rules is done, and every history is safe.
-use Rattle.std.proofs.Common.{◌≡◌, ℕ, List, [], Option, Some, None, refl, ◌∙◌, subst}
+-- A document that keeps to the rules is done, one that is refused ends there, and every history is safe.
+use Rattle.std.proofs.Common.{◌≡◌, ℕ, ◌+◌, List, [], length, Option, Some, None, refl, ◌∙◌, subst}
 use Rattle.edge_io.specs.declared.status.Status.{Status}
 use Rattle.edge_io.specs.declared.status.Status.TheVariants as status
-use Rattle.definitions.specs.Trace.{Given}
+use Rattle.definitions.specs.declared.document.Ending.TheVariants as ends
+use Rattle.definitions.specs.Lines.{text_lines}
+use Rattle.definitions.specs.Rules.{finish_rule}
+use Rattle.definitions.specs.Trace.{Given, trace}
 use Rattle.definitions.specs.Endings.{status_of}
 use Rattle.document_laws.specs.Throughout.{SafeThroughout}
 use Rattle.document_laws.specs.Whole.{whole}
+use Rattle.document_laws.specs.Refused.{story_ended}
 use Rattle.document_laws.proofs.Throughout.{safe_throughout}
 use Rattle.document_laws.proofs.Whole.{document_gives, document_gives_nothing}
+use Rattle.document_laws.proofs.Refused.{refused_in_script, refused_among_items, unfinished}
 use Rattle.safe_laws.proofs.Safety.{safe_story, granted_story}
 use Rattle.step_laws.proofs.Every.{sound_story}
 use Rattle.run_engine.specs.Running.{Gave, Ran, Causes}
-use Rattle.run_engine.specs.Complete.{Completed, NoFault, Complete}
+use Rattle.run_engine.specs.Complete.{Completed, NoFault, Complete, Settled, RefusesDocument}
 
-done : (s : Status) (g : Given) (before now : Option (List ℕ)) (r0 r w0 w : ℕ) → Gave s g before now → Causes s r0 r w0 w → NoFault r0 r w0 w → status_of g.ending ≡ status.Done → Completed s g before now
-done status.Read g before now r0 r w0 w h c n e = absurd (n.read c.0)
-done status.Write g before now r0 r w0 w h c n e = absurd (n.wrote c.1)
-done status.Memory g before now r0 r w0 w h c n e = tt
-done status.Done g before now r0 r w0 w h c n e = (refl, h.1)
-done status.Usage g before now r0 r w0 w h c n e = (h.0 ∙ e, h.1)
-done status.Line g before now r0 r w0 w h c n e = (h.0 ∙ e, h.1)
-done status.Script g before now r0 r w0 w h c n e = (h.0 ∙ e, h.1)
-done status.Premise g before now r0 r w0 w h c n e = (h.0 ∙ e, h.1)
-done status.Limit g before now r0 r w0 w h c n e = (h.0 ∙ e, h.1)
-done status.Unbuilt g before now r0 r w0 w h c n e = (h.0 ∙ e, h.1)
+-- the trace with its status, where no fault was counted
+settled : (s : Status) (g : Given) (before now : Option (List ℕ)) (r0 r w0 w : ℕ) → Gave s g before now → Causes s r0 r w0 w → NoFault r0 r w0 w → Settled s g before now
+settled status.Read g before now r0 r w0 w h c n = absurd (n.read c.1)
+settled status.Write g before now r0 r w0 w h c n = absurd (n.wrote c.1)
+settled status.Memory g before now r0 r w0 w h c n = tt
+settled status.Done g before now r0 r w0 w h c n = h
+settled status.Usage g before now r0 r w0 w h c n = h
+settled status.Line g before now r0 r w0 w h c n = h
+settled status.Script g before now r0 r w0 w h c n = h
+settled status.Premise g before now r0 r w0 w h c n = h
+settled status.Limit g before now r0 r w0 w h c n = h
+settled status.Unbuilt g before now r0 r w0 w h c n = h
+
+done : (s : Status) (g : Given) (before now : Option (List ℕ)) → Settled s g before now → status_of g.ending ≡ status.Done → Completed s g before now
+done status.Memory g before now h e = tt
+done status.Read g before now h e = (h.0 ∙ e, h.1)
+done status.Write g before now h e = (h.0 ∙ e, h.1)
+done status.Done g before now h e = (h.0 ∙ e, h.1)
+done status.Usage g before now h e = (h.0 ∙ e, h.1)
+done status.Line g before now h e = (h.0 ∙ e, h.1)
+done status.Script g before now h e = (h.0 ∙ e, h.1)
+done status.Premise g before now h e = (h.0 ∙ e, h.1)
+done status.Limit g before now h e = (h.0 ∙ e, h.1)
+done status.Unbuilt g before now h e = (h.0 ∙ e, h.1)
 
 pub complete : (s : Status) (left : Option (List ℕ)) (before now : Option (List ℕ)) (r0 r w0 w : ℕ) → Ran s left before now → Causes s r0 r w0 w → Complete s left before now r0 r w0 w
 complete s None before now r0 r w0 w h c = tt
 complete s (Some bytes) before now r0 r w0 w h c = λ n. record {
   script = λ items events d.
-      done s (whole items events) before now r0 r w0 w (subst (λ (g : Given). Gave s g before now) (document_gives bytes items events d) h) c n refl;
+      done s (whole items events) before now (settled s (whole items events) before now r0 r w0 w (subst (λ (g : Given). Gave s g before now) (document_gives bytes items events d) h) c n) refl;
   line = λ items d.
-      done s (whole items []) before now r0 r w0 w (subst (λ (g : Given). Gave s g before now) (document_gives_nothing bytes items d) h) c n refl;
+      done s (whole items []) before now (settled s (whole items []) before now r0 r w0 w (subst (λ (g : Given). Gave s g before now) (document_gives_nothing bytes items d) h) c n) refl;
 }
 
 pub complete_no_memory : (left : Option (List ℕ)) (before now : Option (List ℕ)) (r0 r w0 w : ℕ) → Complete status.Memory left before now r0 r w0 w
 complete_no_memory None before now r0 r w0 w = tt
 complete_no_memory (Some bytes) before now r0 r w0 w = λ n. record { script = λ items events d. tt; line = λ items d. tt }
 
+pub refuses : (s : Status) (left : Option (List ℕ)) (before now : Option (List ℕ)) (r0 r w0 w : ℕ) → Ran s left before now → Causes s r0 r w0 w → RefusesDocument s left before now r0 r w0 w
+refuses s None before now r0 r w0 w h c = tt
+refuses s (Some bytes) before now r0 r w0 w h c = λ n. record {
+  in_script = λ items events ending d. given n (story_ended items events ending) (refused_in_script bytes items events ending d);
+  among_items = λ items ending d. given n (story_ended items [] ending) (refused_among_items bytes items ending d);
+  unfinished = λ items d. given n (story_ended items [] (ends.Rule (length (text_lines bytes) + 1) (finish_rule items))) (unfinished bytes items d);
+}
+  where
+    given : NoFault r0 r w0 w → (g : Given) → trace bytes ≡ g → Settled s g before now
+    given n g e = settled s g before now r0 r w0 w (subst (λ (x : Given). Gave s x before now) e h) c n
+
+pub refuses_no_memory : (left : Option (List ℕ)) (before now : Option (List ℕ)) (r0 r w0 w : ℕ) → RefusesDocument status.Memory left before now r0 r w0 w
+refuses_no_memory None before now r0 r w0 w = tt
+refuses_no_memory (Some bytes) before now r0 r w0 w = λ n. record { in_script = λ items events ending d. tt; among_items = λ items ending d. tt; unfinished = λ items d. tt }
+
 -- the history that any bytes are is safe after each of its events, and each event added what it granted
 pub all_safe : (bytes : List ℕ) → SafeThroughout bytes
-all_safe bytes = safe_throughout (λ line events l k. record { safe = safe_story line events l k (λ t ts h. sound_story line t ts l h); granted = granted_story line events l k (λ t ts h. sound_story line t ts l h) }) bytes
+all_safe bytes = safe_throughout (λ line events l k n. record { safe = safe_story line events l k n (λ t ts h. sound_story line t ts l h); granted = granted_story line events l k (λ t ts h. sound_story line t ts l h) }) bytes

@@ -1,7 +1,7 @@
 -- One piece more of a run.
 use Rattle.std.proofs.Common.{◌≡◌, ℕ, ◌+◌, List, [], ◌++◌, length, take, drop, Option, Some, None, Result, Ok, Err, true, false, refl, sym, ◌∙◌, ap, subst, append-nil, append_assoc}
 use Rattle.std.proofs.lemmas.List.{take-append-drop}
-use Rattle.edge_io.specs.declared.stream.Got.TheVariants.{Bytes, End}
+use Rattle.edge_io.specs.declared.stream.Got.TheVariants.{Bytes, End, Failed}
 use Rattle.edge_io.specs.Streams.{Gives, GivesTold}
 use Rattle.edge_io.specs.Reading.{WroteIs, WroteFront}
 use Rattle.edge_io.proofs.Wrote.{wrote_then, front_then, front_more, wrote_none}
@@ -11,12 +11,15 @@ use Rattle.definitions.specs.Endings.{status_of}
 use Rattle.definitions.specs.Trace.{Given, behind, is_over, start, trace}
 use Rattle.byte_feed.specs.Feed.{Feed, opened, feds, feds_text, fed_gives, total}
 use Rattle.byte_feed.proofs.Streams.{trace_fed}
+use Rattle.byte_feed.proofs.Whole_lines.{so_far}
 use Rattle.byte_feed.proofs.Pieces.{gives_append, gives_over, feds_count, feds_append, feds_text_append}
 use Rattle.run_engine.proofs.Doing.{front_none}
+use Rattle.run_engine.specs.declared.feed.Fault.{Fault}
+use Rattle.run_engine.specs.declared.feed.Fault.TheVariants as faults
 use Rattle.run_engine.specs.declared.pump.Cut.{Cut}
 use Rattle.run_engine.specs.declared.pump.Cut.TheVariants as cuts
 use Rattle.edge_io.specs.declared.status.Status.TheVariants as status
-use Rattle.run_engine.specs.Running.{Comes, Mid, Midway, Pumped, PumpCauses, Gave, Ran, Causes, status_of_cut}
+use Rattle.run_engine.specs.Running.{Comes, Mid, Midway, AtStop, Pumped, PumpCauses, Gave, Ran, ReadCut, Causes, cut_of, status_of_cut}
 
 pub midway_start : (left : Option (List ℕ)) (f : Feed) (w : Option (List ℕ)) → Midway left left f f w w
 unfolding feds feds_text
@@ -64,6 +67,12 @@ pub midway_fails : (all old : Option (List ℕ)) (first f last : Feed) (before n
 midway_fails None old first f last before now r cut e h = tt
 midway_fails (Some all) None first f last before now r cut e h = absurd h
 midway_fails (Some all) (Some old) first f last before now r cut e h = rw e (front_of (fed_gives first all) (fed_gives f old) before now (comes all old first f before now h))
+
+-- what is left stays
+pub midway_stays : (all old new : Option (List ℕ)) (buf : List ℕ) (first f : Feed) (before now : Option (List ℕ)) → Gives Failed old buf new → Midway all old first f before now → Midway all new first f before now
+midway_stays all None new buf first f before now g h = subst (λ (x : Option (List ℕ)). Midway all x first f before now) (sym g) h
+midway_stays all (Some old) None buf first f before now g h = absurd g
+midway_stays all (Some old) (Some new) buf first f before now g h = subst (λ (x : List ℕ). Midway all (Some x) first f before now) (sym g) h
 
 -- a fault of the sink, or want of memory, inside a piece
 pub midway_cut : (all old new : Option (List ℕ)) (buf : List ℕ) (n : ℕ) (first f last : Feed) (before mid now : Option (List ℕ)) (cut : Cut) → Gives (Bytes n) old buf new → Midway all old first f before mid → WroteFront mid now (feds_text f (take n buf)) → Pumped all first last before now (Err cut)
@@ -139,6 +148,36 @@ pub run_cut : (left : Option (List ℕ)) (first f : Feed) (cut : Cut) (before no
 run_cut None first f cut before now is h = tt
 run_cut (Some all) first f cut before now is h =
     subst (λ (g : Given). Gave (status_of_cut cut) g before now) (first_is first all is) (gave_front cut (fed_gives first all) before now h)
+
+-- Only the source stops a pump so.
+
+pub not_stopped : (fault : Fault) (P : Type 0) → AtStop (Err (cut_of fault)) P
+not_stopped faults.Write P = tt
+not_stopped faults.Memory P = tt
+
+pub fault_uncut : (fault : Fault) (left rest before now : Option (List ℕ)) → ReadCut (status_of_cut (cut_of fault)) left rest before now
+fault_uncut faults.Write left rest before now = tt
+fault_uncut faults.Memory left rest before now = tt
+
+pub end_uncut : (e : Ending) (left rest before now : Option (List ℕ)) → ReadCut (status_of e) left rest before now
+end_uncut ends.Usage left rest before now = tt
+end_uncut (ends.Done n) left rest before now = tt
+end_uncut (ends.Rule n r) left rest before now = tt
+end_uncut (ends.Premise n p) left rest before now = tt
+end_uncut ends.Input left rest before now = tt
+end_uncut ends.Trains left rest before now = tt
+end_uncut (ends.Unbuilt n) left rest before now = tt
+
+pub run_stopped : (cut : Cut) (left rest : Option (List ℕ)) (first f : Feed) (before now : Option (List ℕ)) → first ≡ opened start → AtStop (Err cut) (Midway left rest first f before now) → ReadCut (status_of_cut cut) left rest before now
+run_stopped cuts.Write left rest first f before now is h = tt
+run_stopped cuts.Memory left rest first f before now is h = tt
+run_stopped cuts.Read None rest first f before now is h = tt
+run_stopped cuts.Read (Some all) None first f before now is h = h
+run_stopped cuts.Read (Some all) (Some rest) first f before now is h = record {
+  got = h.got;
+  came = h.came;
+  wrote = subst (λ (t : List ℕ). WroteIs before now t) (ap (λ (x : Feed). feds_text x h.got) is ∙ so_far h.got) h.wrote;
+}
 
 pub cut_causes : (cut : Cut) (r0 r w0 w : ℕ) → PumpCauses (Err cut) r0 r w0 w → Causes (status_of_cut cut) r0 r w0 w
 cut_causes cuts.Read r0 r w0 w h = h

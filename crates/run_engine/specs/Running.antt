@@ -1,12 +1,13 @@
 -- What a run gives.
-use Rattle.std.specs.Prelude.{◌≡◌, ℕ, List, [], ◌++◌, Option, Some, None, Result, Ok, Err}
+use Rattle.std.specs.Prelude.{◌≡◌, ◌≤◌, ℕ, List, [], ◌++◌, Option, Some, None, Result, Ok, Err}
 use Rattle.edge_io.specs.declared.status.Status.{Status}
 use Rattle.edge_io.specs.declared.status.Status.TheVariants as status
 use Rattle.edge_io.specs.Reading.{WroteIs, WroteFront}
 use Rattle.edge_io.specs.Causes.{Rose}
-use Rattle.definitions.specs.Trace.{Given, behind, trace}
+use Rattle.definitions.specs.Lines.{text_lines}
+use Rattle.definitions.specs.Trace.{Given, behind, start, trace}
 use Rattle.definitions.specs.Endings.{status_of}
-use Rattle.byte_feed.specs.Feed.{Feed, fed_gives, feds, feds_text}
+use Rattle.byte_feed.specs.Feed.{Feed, fed_gives, feds, feds_text, whole_lines, lines_text}
 use Rattle.run_engine.specs.declared.feed.Fault.{Fault}
 use Rattle.run_engine.specs.declared.feed.Fault.TheVariants as faults
 use Rattle.run_engine.specs.declared.pump.Cut.{Cut}
@@ -36,6 +37,11 @@ Midway None None first f before now = Unit {0}
 Midway (Some all) None first f before now = ⊥
 Midway None (Some rest) first f before now = ⊥
 
+-- what holds of a pump that the source stopped
+abbrev pub AtStop : Result (Unit {0}) Cut → Type 0 → Type 0
+AtStop (Err cuts.Read) P = P
+AtStop r P = Unit {0}
+
 abbrev pub PumpedTold : List ℕ → Feed → Feed → Option (List ℕ) → Option (List ℕ) → Result (Unit {0}) Cut → Type 0
 PumpedTold all first f before now (Ok u) = Comes (fed_gives first all) (fed_gives f []) before now
 PumpedTold all first f before now (Err cut) = WroteFront before now (fed_gives first all).text
@@ -47,7 +53,7 @@ Pumped (Some all) first f before now r = PumpedTold all first f before now r
 
 abbrev pub PumpCauses : Result (Unit {0}) Cut → ℕ → ℕ → ℕ → ℕ → Type 0
 PumpCauses (Ok u) r0 r w0 w = (r ≡ r0) × (w ≡ w0)
-PumpCauses (Err cuts.Read) r0 r w0 w = Rose r0 r × (w ≡ w0)
+PumpCauses (Err cuts.Read) r0 r w0 w = (r0 ≤ r) × Rose r0 r × (w ≡ w0)
 PumpCauses (Err cuts.Write) r0 r w0 w = (r ≡ r0) × Rose w0 w
 PumpCauses (Err cuts.Memory) r0 r w0 w = (r ≡ r0) × (w ≡ w0)
 
@@ -63,9 +69,22 @@ abbrev pub Ran : Status → Option (List ℕ) → Option (List ℕ) → Option (
 Ran s None before now = Unit {0}
 Ran s (Some bytes) before now = Gave s (trace bytes) before now
 
--- a fault is answered only where that object's count rose, and nothing else lets a count rise
+-- some bytes were read and the rest is left: exactly the outcome lines of the text lines among them that an LF ends were
+-- written, and no last line
+pub record WroteWholeLines (bytes rest : List ℕ) (before now : Option (List ℕ)) : Type 0 where
+  pub got : List ℕ
+  pub came : got ++ rest ≡ bytes
+  pub wrote : WroteIs before now (lines_text start (whole_lines (text_lines got)))
+
+-- at a fault of the source, where it tells what was left before and what is left now
+abbrev pub ReadCut : Status → Option (List ℕ) → Option (List ℕ) → Option (List ℕ) → Option (List ℕ) → Type 0
+ReadCut status.Read (Some bytes) (Some rest) before now = WroteWholeLines bytes rest before now
+ReadCut status.Read (Some bytes) None before now = ⊥
+ReadCut s left rest before now = Unit {0}
+
+-- a fault is answered only where that object's count rose, and nothing else lets a count rise; that of the source never falls
 abbrev pub Causes : Status → ℕ → ℕ → ℕ → ℕ → Type 0
-Causes status.Read r0 r w0 w = Rose r0 r × (w ≡ w0)
+Causes status.Read r0 r w0 w = (r0 ≤ r) × Rose r0 r × (w ≡ w0)
 Causes status.Write r0 r w0 w = (r ≡ r0) × Rose w0 w
 Causes s r0 r w0 w = (r ≡ r0) × (w ≡ w0)
 

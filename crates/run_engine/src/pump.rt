@@ -4,8 +4,8 @@ ghost use Rattle.definitions.specs.Trace.{is_over};
 ghost use Rattle.byte_feed.specs.Feed.{opened};
 ghost use Rattle.run_engine.specs.Feeding.{feed_shown, Within};
 ghost use Rattle.document_laws.specs.Throughout.{SafeThroughout};
-ghost use Rattle.run_engine.specs.Complete.{Complete};
-ghost use Rattle.run_engine.specs.Running.{AtEnd, Pumped, PumpCauses, Ran, Causes, cut_of, status_of_cut};
+ghost use Rattle.run_engine.specs.Complete.{Complete, RefusesDocument};
+ghost use Rattle.run_engine.specs.Running.{AtEnd, AtStop, Midway, Pumped, PumpCauses, Ran, ReadCut, Causes, cut_of, status_of_cut};
 
 use crate::feed::{Fault, Feed};
 use crate::stage::status;
@@ -50,6 +50,7 @@ fn pump<S: Source, K: Sink>(
     requires within { Within (feed_shown feed.old) }
     requires on { is_over (feed_shown feed.old).reading.stage ≡ false }
     ensures pumped { Pumped (S.left src.old) (feed_shown feed.old) (feed_shown feed.new) (K.written sink.old) (K.written sink.new) result }
+    ensures stop { AtStop result (Midway (S.left src.old) (S.left src.new) (feed_shown feed.old) (feed_shown feed.new) (K.written sink.old) (K.written sink.new)) }
     ensures causes { PumpCauses result (S.faults src.old) (S.faults src.new) (K.faults sink.old) (K.faults sink.new) }
     ensures within { OnOk result (Within (feed_shown feed.new)) }
     ensures ended { OnOk result (is_over (feed_shown feed.new).reading.stage ≡ false → AtEnd (S.left src.new)) }
@@ -80,6 +81,7 @@ fn run_from<S: Source, K: Sink>(alloc: Global, feed: Feed, src: &mut S, sink: &m
     requires start { feed_shown feed ≡ opened Rattle.definitions.specs.Trace.start }
     requires within { Within (feed_shown feed) }
     ensures ran { Ran result (S.left src.old) (K.written sink.old) (K.written sink.new) }
+    ensures read { ReadCut result (S.left src.old) (S.left src.new) (K.written sink.old) (K.written sink.new) }
     ensures causes { Causes result (S.faults src.old) (S.faults src.new) (K.faults sink.old) (K.faults sink.new) }
     ensures ended { result ≡ Status.Done → AtEnd (S.left src.new) }
 {
@@ -97,9 +99,11 @@ fn run_from<S: Source, K: Sink>(alloc: Global, feed: Feed, src: &mut S, sink: &m
 /// Writes what the source's bytes give: the outcome lines of a document, and its last line.
 pub fn run<S: Source, K: Sink>(alloc: Global, src: &mut S, sink: &mut K) -> Status
     ensures ran { Ran result (S.left src.old) (K.written sink.old) (K.written sink.new) }
+    ensures read { ReadCut result (S.left src.old) (S.left src.new) (K.written sink.old) (K.written sink.new) }
     ensures causes { Causes result (S.faults src.old) (S.faults src.new) (K.faults sink.old) (K.faults sink.new) }
     ensures ended { result ≡ Status.Done → AtEnd (S.left src.new) }
     ensures complete { Complete result (S.left src.old) (K.written sink.old) (K.written sink.new) (S.faults src.old) (S.faults src.new) (K.faults sink.old) (K.faults sink.new) }
+    ensures refuses { RefusesDocument result (S.left src.old) (K.written sink.old) (K.written sink.new) (S.faults src.old) (S.faults src.new) (K.faults sink.old) (K.faults sink.new) }
     ensures safe { IfSome (S.left src.old) SafeThroughout }
 {
     match Feed::start(alloc) {

@@ -4,7 +4,7 @@ use Rattle.std.specs.List.{list_any}
 use Rattle.track_points.proofs.Some.{by_test}
 use Rattle.definitions.specs.declared.message.Msg.{Msg}
 use Rattle.definitions.specs.Story.{Story, ever_issued}
-use Rattle.motion_laws.proofs.Issued.{AllIn, AllIssued}
+use Rattle.event_laws.proofs.Issued.{AllIn, AllIssued}
 
 -- one that passes
 in_found : (G : Type 0) (test : Msg → Bool) (P : Msg → Type 0) (issued : List (ℕ × Msg)) → AllIn P issued → list_any (λ (x : ℕ × Msg). test x.1) issued ≡ true

@@ -1,5 +1,5 @@
 -- No train on the line is derailed: its journey leads to its head, and its cells lie on few steps.
-use Rattle.std.proofs.Common.{◌≡◌, ℕ, ◌+◌, ◌≤◌, List, length, take, true, false, ap, arith}
+use Rattle.std.proofs.Common.{◌≡◌, ℕ, ◌+◌, ◌<◌, ◌≤◌, ◌^◌, List, length, take, true, false, ap, arith}
 use Rattle.std.proofs.lemmas.Bool.Decides.{nat_tests}
 use Rattle.std.proofs.lemmas.List.{length-append, length-take}
 use Rattle.track_points.specs.declared.ids.DirSeg.{DirSeg}
@@ -9,18 +9,17 @@ use Rattle.definitions.specs.Farther.{route_or_none}
 use Rattle.definitions.specs.Ways.{off_track, crowded}
 use Rattle.definitions.specs.Story.{Story}
 use Rattle.definitions.specs.World.{entered, head, rear, journey}
-use Rattle.definitions.specs.Control.{controls}
+use Rattle.definitions.specs.Control.{controls, last_issued}
 use Rattle.definitions.specs.Longest.{longest_end, longest_route}
 use Rattle.definitions.specs.Safe.{IsLineOfOneZone, OnTrack}
-use Rattle.plain_state.specs.Plain.{zone_id}
-use Rattle.way_laws.proofs.Cut.{cut_few, cut_total}
+use Rattle.definitions.specs.Zones.{zone_id}
+use Rattle.way_laws.proofs.Cut.{cut_total}
 use Rattle.way_laws.proofs.Between_places.{behind_least}
-use Rattle.journey_laws.proofs.Once.{journey_few}
 use Rattle.sound_laws.proofs.Sound.{Controlled, Sound}
-use Rattle.sound_laws.proofs.One_route.{OneRoute, one_route, path_parts, on_controls}
+use Rattle.sound_laws.proofs.One_route.{OneRoute, one_route, path_parts, on_controls, journey_few}
 use Rattle.safe_laws.proofs.Ways_held.{rear_behind}
 
-module _ (line : Line) (t : ℕ) (s : Story) (l : IsLineOfOneZone line) (sound : Sound line t s) (on : entered t s ≡ true) where
+module _ (line : Line) (t : ℕ) (s : Story) (l : IsLineOfOneZone line) (sound : Sound line t s) (on : entered t s ≡ true) (numbers : last_issued t s < 2 ^ 27) where
   abbrev len : Lengths
   len = seg_len line
 
@@ -45,14 +44,12 @@ module _ (line : Line) (t : ℕ) (s : Story) (l : IsLineOfOneZone line) (sound :
 
   few : length (journey line t s) ≤ c.newest.mark + 24
   few =
-      let o = one in
-      let a = ap (λ (xs : List DirSeg). length xs) o.journey_on in
-      let b = cut_few len (longest_route line t s) (head t s) in
+      let a = journey_few line t s sound.authorized control in
       let d = ap (λ (xs : List DirSeg). length xs) (ap (route_or_none (journey line t s)) c.longest_is) in
       let e = length-append (take c.newest.mark (journey line t s)) c.newest.path.steps.items in
       let f = (path_parts line c.newest.path c.newest_is.fits).few in
       let g = take_most c.newest.mark (journey line t s) in
-      omega (arith, a, b, d, e, f, g)
+      omega (arith, a, d, e, f, g)
     where
       take_most : (n : ℕ) (xs : List DirSeg) → length (take n xs) ≤ n
       take_most n xs = let t = length-take n xs in omega (arith, t)
@@ -69,13 +66,10 @@ module _ (line : Line) (t : ℕ) (s : Story) (l : IsLineOfOneZone line) (sound :
       let n = behind_least len (journey line t s) c.newest.mark 24 (rear t s) mark_before few in
       grind (arith, nat_tests)
 
-  marked : length (journey line t s) ≤ 65536
-  marked = journey_few line t c.step s l.valid c.portal c.first
-
   pub keeps_track : OnTrack line t s
   keeps_track = record {
     begun = sound.motion.born on;
     reached = reaches;
     few = not_crowded;
-    mark = let m = marked in omega (arith, m);
+    mark = let j = journey_few line t s sound.authorized control in let m = c.marks in omega (arith, j, m, numbers);
   }

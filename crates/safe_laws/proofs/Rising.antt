@@ -4,7 +4,6 @@ use Rattle.std.proofs.lemmas.Bool.Decides.{nat_tests}
 use Rattle.std.specs.Prelude.{nat_le}
 use Rattle.track_points.specs.Points.{Point, has_between, steps_to}
 use Rattle.track_points.proofs.Some.{by_test}
-use Rattle.definitions.specs.Numbers.{first}
 use Rattle.front_laws.proofs.Least_front.{fronts_from}
 use Rattle.definitions.specs.Track.{Line, seg_len, layout}
 use Rattle.definitions.specs.Story.{Entry as Made, Story}
@@ -14,9 +13,9 @@ use Rattle.definitions.specs.Longest.{longest_end, longest_route}
 use Rattle.definitions.specs.Fronts.{possible_front, least_rear}
 use Rattle.definitions.specs.Authority.{held}
 use Rattle.definitions.specs.Safe.{IsLineOfOneZone}
-use Rattle.plain_state.specs.Plain.{zone_id}
-use Rattle.motion_laws.proofs.Controls.{controls_stays}
-use Rattle.motion_laws.proofs.Stays.{long_stays, first_stays}
+use Rattle.definitions.specs.Zones.{zone_id}
+use Rattle.event_laws.proofs.Controls.{controls_stays}
+use Rattle.event_laws.proofs.Stays.{long_stays, first_stays}
 use Rattle.motion_laws.proofs.Motion.{place, place_at_most}
 use Rattle.sound_laws.proofs.Sound.{Controlled, FrontsAre, Sound}
 use Rattle.safe_laws.proofs.Extents.{range_in, range_least, points_cases}

@@ -15,10 +15,10 @@ use Rattle.definitions.specs.Longest.{longest_end, longest_route}
 use Rattle.definitions.specs.Fronts.{least_rear, greatest_front}
 use Rattle.definitions.specs.Authority.{way, way_has, held}
 use Rattle.definitions.specs.Safe.{IsLineOfOneZone}
-use Rattle.plain_state.specs.Plain.{zone_id}
+use Rattle.definitions.specs.Zones.{zone_id}
 use Rattle.way_laws.proofs.Cut.{cut_points}
 use Rattle.way_laws.proofs.Between_places.{between_points}
-use Rattle.motion_laws.proofs.Notions.{both}
+use Rattle.event_laws.proofs.Notions.{both}
 use Rattle.motion_laws.proofs.Motion.{place}
 use Rattle.sound_laws.proofs.Sound.{AuthorityIs, Controlled, FrontsAre, Sound}
 use Rattle.sound_laws.proofs.One_route.{OneRoute, one_route}

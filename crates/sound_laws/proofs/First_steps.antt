@@ -10,7 +10,7 @@ use Rattle.definitions.specs.World.{first_entry, entered, head, Authority, route
 use Rattle.definitions.specs.Control.{controls}
 use Rattle.definitions.specs.Farther.{end_or_0}
 use Rattle.definitions.specs.Longest.{longest_route}
-use Rattle.plain_state.specs.Plain.{zone_id}
+use Rattle.definitions.specs.Zones.{zone_id}
 use Rattle.motion_laws.proofs.Motion.{Motion}
 use Rattle.way_laws.proofs.Cut.{cut_some, cut_total}
 use Rattle.journey_laws.proofs.Journey.{journey_begins, journey_ends, first_steps}

@@ -1,6 +1,6 @@
 -- All of a train lies on one route, that of its longest authority, cut at a place: the journey at its head, each authority at
 -- its end.
-use Rattle.std.proofs.Common.{◌≡◌, ℕ, ◌+◌, ◌<◌, ◌≤◌, List, [], ◌∷◌, ◌++◌, length, take, Option, Some, None, true, ◌&&◌, refl, sym, ap, subst, ◌∙◌, arith}
+use Rattle.std.proofs.Common.{◌≡◌, ℕ, ◌+◌, ◌<◌, ◌≤◌, List, [], ◌∷◌, ◌++◌, length, take, Option, Some, None, true, false, ◌&&◌, refl, sym, ap, subst, ◌∙◌, arith}
 use Rattle.std.proofs.lemmas.Bool.Decides.{nat_tests}
 use Rattle.std.proofs.lemmas.List.{length-append}
 use Rattle.std.specs.Prelude.{nat_le, nat_lt, is_some}
@@ -17,9 +17,9 @@ use Rattle.definitions.specs.World.{entered, head, Authority, HeldPath, route, a
 use Rattle.definitions.specs.Control.{controls, last_issued}
 use Rattle.definitions.specs.Farther.{end_or_0, route_or_none}
 use Rattle.definitions.specs.Longest.{longest_end, longest_route}
-use Rattle.plain_state.specs.Plain.{zone_id}
+use Rattle.definitions.specs.Zones.{zone_id}
 use Rattle.way_laws.proofs.Lines.{both}
-use Rattle.way_laws.proofs.Cut.{last_place, place_after, last_after, cut_whole, total_append}
+use Rattle.way_laws.proofs.Cut.{last_place, place_after, last_after, cut_few, cut_whole, total_append}
 use Rattle.motion_laws.proofs.Motion.{Motion}
 use Rattle.sound_laws.proofs.Sound.{path_fits, end_read, AuthorityIs, FirstIs, Controlled, Authorized}
 
@@ -107,6 +107,12 @@ on_controls line t s k on = let g = some_held (entry_authority t s) refl (k.came
     some_held None is h = absurd cc
     some_held (Some g) is h = (g, is)
 
+-- so one that its zone does not control has not
+pub uncontrolled_off : (line : Line) (t : ℕ) (s : Story) → Authorized line t s → controls (zone_id line) t s ≡ false → entered t s ≡ false
+uncontrolled_off line t s k free = by_test (entered t s)
+    (λ y. absurd (let c : true ≡ false = sym (on_controls line t s k y) ∙ free in cc))
+    (λ n. n)
+
 -- the one route of a train, and where it ends: all steps of it lie before the end, and the journey is the part up to the head
 pub record OneRoute (line : Line) (t : ℕ) (s : Story) (kept : List DirSeg) (end : ℕ) : Type 0 where
   pub some : 0 < length kept
@@ -140,6 +146,13 @@ module _ (line : Line) (t : ℕ) (s : Story) (k : Authorized line t s) (controll
 
   pub kept_cut : longest_route line t s ≡ steps_to (seg_len line) (longest_route line t s) (longest_end line t s)
   kept_cut = newest_route ∙ c.newest_is.on ∙ ap (steps_to (seg_len line) (longest_route line t s)) (sym newest_end)
+
+  -- the journey has no more steps than it
+  pub journey_few : length (journey line t s) ≤ length (longest_route line t s)
+  journey_few =
+      let e = ap (λ (xs : List DirSeg). length xs) c.journey_on in
+      let f = cut_few (seg_len line) (longest_route line t s) (head t s) in
+      omega (arith, e, f)
 
   -- the last number ends where the longest does
   pub last_end : end_read line t s (last_issued t s) ≡ longest_end line t s

@@ -5,7 +5,7 @@ use Rattle.std.specs.Prelude.{nat_eq, nat_lt}
 use Rattle.track_points.specs.declared.ids.DirSeg.{DirSeg}
 use Rattle.track_points.specs.declared.ids.TrainId.{TrainId}
 use Rattle.track_points.specs.declared.path.Path.{Path}
-use Rattle.track_points.specs.Points.{Lengths, Point, total, end_place}
+use Rattle.track_points.specs.Points.{Point, total, end_place}
 use Rattle.track_points.proofs.Some.{by_test}
 use Rattle.arrayvec.specs.ArrayVec.{ArrayVec}
 use Rattle.definitions.specs.declared.event.Event.{Event}
@@ -14,20 +14,21 @@ use Rattle.definitions.specs.declared.message.Msg.TheVariants as msg
 use Rattle.definitions.specs.Track.{Line, seg_len}
 use Rattle.definitions.specs.Ways.{PlainWay, way_between}
 use Rattle.definitions.specs.Story.{Entry as Made, Story}
-use Rattle.definitions.specs.World.{entered, goes_on, is_auth}
+use Rattle.definitions.specs.World.{entered, goes_on}
 use Rattle.definitions.specs.Control.{grants_entry, controls, knows, knows_most, now_with, last_issued}
 use Rattle.definitions.specs.Longest.{counted, longest_end, longest_route}
-use Rattle.definitions.specs.Fronts.{report_time, silent_by, is_used, possible_front, least_rear}
+use Rattle.definitions.specs.Fronts.{report_time, silent_by, least_rear}
 use Rattle.definitions.specs.Authority.{way, holder_of}
 use Rattle.definitions.specs.Limit.{Reach, asked_way, continues, path_of, reach_from, barring, limit}
-use Rattle.definitions.specs.Steps.{entry_path, path_to, zone_entry, zone_ask, zone_report, zone_time, zone_step, made}
+use Rattle.definitions.specs.Steps.{path_to, zone_step, made}
 use Rattle.definitions.specs.Safe.{IsLineOfOneZone}
-use Rattle.plain_state.specs.Plain.{zone_id}
+use Rattle.event_laws.proofs.Answers.{entry_cases, ask_cases, time_cases}
+use Rattle.definitions.specs.Zones.{zone_id}
 use Rattle.motion_laws.proofs.Motion.{Motion}
-use Rattle.motion_laws.proofs.Notions.{both}
-use Rattle.motion_laws.proofs.Issued.{AllIn}
+use Rattle.event_laws.proofs.Notions.{both}
+use Rattle.event_laws.proofs.Issued.{no_issue, NoAuth}
 use Rattle.way_laws.proofs.Reach.{reach_granted}
-use Rattle.motion_laws.proofs.Controls.{controls_knows}
+use Rattle.event_laws.proofs.Controls.{controls_knows}
 use Rattle.sound_laws.proofs.Sound.{path_fits, FrontsAre, RequestTrue, Authorized}
 use Rattle.authority_laws.proofs.Auth_new.{NewAuth}
 use Rattle.authority_laws.proofs.Auth_entry.{entry_new}
@@ -38,50 +39,8 @@ use Rattle.authority_laws.proofs.Auth_longer.{granted_ready, grant_fits, granted
 
 -- no authority of the train, or one
 pub data Issues (line : Line) (t : ℕ) (s : Story) (x : Made) : Type 0 where
-  quiet : AllIn (λ m. is_auth t m ≡ false) x.issued → Issues line t s x
+  quiet : NoAuth t x.issued → Issues line t s x
   issues : NewAuth line t s x → Issues line t s x
-
-abbrev pub NoAuth : ℕ → List (ℕ × Msg) → Type 0
-NoAuth t issued = AllIn (λ m. is_auth t m ≡ false) issued
-
-pub no_issue : (t : ℕ) (issued : List (ℕ × Msg)) → issued ≡ [] → NoAuth t issued
-unfolding AllIn
-no_issue t issued h = rw h tt
-
--- another train's
-pub other_issue : (t number mark : ℕ) (u : TrainId) (path : Path) (issued : List (ℕ × Msg)) → nat_eq u.0 t ≡ false → issued ≡ (0, msg.Auth u number mark path) ∷ [] → NoAuth t issued
-unfolding AllIn
-other_issue t number mark u path issued other h = rw h (other, tt)
-
--- What each take comes to: nothing, or one authority.
-
-pub entry_cases : (P : Type 0) (z : ℕ) (known full : Bool) (room : ℕ) (u : TrainId) (long : ℕ) (step : DirSeg) (holder : Option ℕ) → ((zone_entry z known full room u long step holder).issued ≡ [] → P)
-    → (known ≡ false → nat_lt room long ≡ false → (zone_entry z known full room u long step holder).issued ≡ (0, msg.Auth u 1 0 (entry_path step room)) ∷ [] → P) → P
-entry_cases P z true full room u long step holder f g = f refl
-entry_cases P z false true room u long step holder f g = f refl
-entry_cases P z false false room u long step (Some held) f g = f (by_test (nat_lt room long) (λ y. rw y refl) (λ n. rw n refl))
-entry_cases P z false false room u long step None f g = by_test (nat_lt room long)
-    (λ y. f (rw y refl))
-    (λ n. g refl n (rw n refl))
-
-pub ask_cases : (P : Type 0) (len : Lengths) (z : ℕ) (u : TrainId) (last : ℕ) (w : Option PlainWay) (asked : List DirSeg) (reach : Reach) → ((zone_ask len z u last w asked reach).issued ≡ [] → P)
-    → ((v : PlainWay) → w ≡ Some v → nat_eq reach.distance 0 ≡ false
-    → (zone_ask len z u last w asked reach).issued ≡ (0, msg.Auth u (last + 1) v.mark (path_to len v.path.from (asked_way v.path.steps.items asked) (end_place len v.path + reach.distance))) ∷ [] → P) → P
-ask_cases P len z u last None asked reach f g = f refl
-ask_cases P len z u last (Some v) asked reach f g = by_test (nat_eq reach.distance 0)
-    (λ y. f (rw y refl))
-    (λ n. g v refl n (rw n refl))
-
-pub time_cases : (P : Type 0) (controlled : Bool) (counted_ last : ℕ) (u : TrainId) (w : Option PlainWay) → ((zone_time controlled counted_ last u w).issued ≡ [] → P)
-    → ((v : PlainWay) → w ≡ Some v → controlled ≡ true → (zone_time controlled counted_ last u w).issued ≡ (0, msg.Auth u last v.mark v.path) ∷ [] → P) → P
-time_cases P false counted_ last u w f g = f refl
-time_cases P true counted_ last u None f g = f (by_test (nat_lt counted_ last) (λ y. rw y refl) (λ n. rw n refl))
-time_cases P true counted_ last u (Some v) f g = by_test (nat_lt counted_ last)
-    (λ y. g v refl refl (rw y refl))
-    (λ n. f (rw n refl))
-
-pub report_none : (line : Line) (z : ℕ) (s : Story) (u : TrainId) (m : Msg) → (zone_report line z s u m).issued ≡ []
-report_none line z s u m = by_test (is_used line z u.0 s (possible_front line z u.0 s) m) (λ y. rw y refl) (λ n. rw n refl)
 
 -- where a zone does not control a train an ask reaches nowhere
 no_reach : (line : Line) (ready silent : Bool) (w : Option Path) (asked : List DirSeg) (to : ℕ) (held : Point → Bool) → ready ≡ false → nat_eq (reach_from line ready silent w asked to held).distance 0 ≡ true

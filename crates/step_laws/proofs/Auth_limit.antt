@@ -1,24 +1,26 @@
 -- The limit that a train holds is the end of an issued authority, and not behind its head.
-use Rattle.std.proofs.Common.{◌≡◌, ℕ, ◌+◌, ◌≤◌, ◌<◌, max, [], ◌∷◌, Option, Some, true, false, refl, sym, ◌∙◌, ap, arith}
+use Rattle.std.proofs.Common.{◌≡◌, ℕ, ◌+◌, ◌≤◌, ◌<◌, [], ◌∷◌, Option, Some, true, false, refl, sym, ◌∙◌, ap, arith}
 use Rattle.std.proofs.lemmas.Bool.Decides.{nat_tests}
 use Rattle.std.specs.Prelude.{nat_lt}
 use Rattle.track_points.specs.declared.ids.DirSeg.{DirSeg}
 use Rattle.track_points.proofs.Some.{by_test}
 use Rattle.definitions.specs.declared.event.Event.{Event}
-use Rattle.definitions.specs.declared.event.Event.TheVariants.{Train, Entry, Enter, Ask, Step, Report, Time, Take, Deliver}
+use Rattle.definitions.specs.declared.event.Event.TheVariants.{Step}
 use Rattle.definitions.specs.Track.{Line, seg_len}
 use Rattle.definitions.specs.Premises.{stops_rightly}
 use Rattle.definitions.specs.Story.{Entry as Made, Story, ever, world_took}
-use Rattle.definitions.specs.World.{enters, entered, moved, head, journey, Authority, authority_end, HeldPath, entry_authority, taken_number, taken_path, last_number, limit_held, held_end, limit_place}
+use Rattle.definitions.specs.World.{enters, entered, moved, head, journey, Authority, authority_end, HeldPath, entry_authority, taken_number, last_number, limit_held, held_end, limit_place}
 use Rattle.definitions.specs.Control.{controls}
 use Rattle.definitions.specs.Farther.{end_or_0}
 use Rattle.definitions.specs.Fold.{account}
 use Rattle.definitions.specs.Steps.{effects}
-use Rattle.plain_state.specs.Plain.{zone_id}
-use Rattle.motion_laws.proofs.Admitted.{Admitted}
-use Rattle.motion_laws.proofs.Notions.{entered_same}
+use Rattle.event_laws.proofs.Still.{number_on, limit_on, number_next, number_off, limit_next, limit_kept}
+use Rattle.definitions.specs.Zones.{zone_id}
+use Rattle.event_laws.proofs.Admitted.{Admitted}
+use Rattle.event_laws.proofs.Notions.{entered_same}
 use Rattle.motion_laws.proofs.Motion.{Motion, head_on, head_next, place_grows, heads_grow, motion_step}
-use Rattle.motion_laws.proofs.Moves.{head_step, effect_event}
+use Rattle.event_laws.proofs.Does.{effect_event}
+use Rattle.motion_laws.proofs.Moves.{head_step}
 use Rattle.way_laws.proofs.Track.{some_same}
 use Rattle.sound_laws.proofs.Sound.{end_read, AuthorityIs, FirstIs, LimitIs, Authorized}
 use Rattle.sound_laws.proofs.One_route.{first_end}
@@ -30,44 +32,10 @@ use Rattle.step_laws.proofs.Auth_taken.{TakenIs}
 -- a step moves a train to its limit at most
 moved_stops : (line : Line) (t : ℕ) (s : Story) (e : Event) → stops_rightly line s e ≡ true → head t s ≤ limit_place line t s → head t s + moved t e ≤ limit_place line t s
 moved_stops line t s (Step ms moves) h l = head_step line t s moves.items h l
-moved_stops line t s (Train u long error speed kind) h l = omega (arith, l)
-moved_stops line t s (Entry u step) h l = omega (arith, l)
-moved_stops line t s (Enter u) h l = omega (arith, l)
-moved_stops line t s (Ask u z steps to) h l = omega (arith, l)
-moved_stops line t s (Report u z step offset whole) h l = omega (arith, l)
-moved_stops line t s (Time z u) h l = omega (arith, l)
-moved_stops line t s (Take to from number) h l = omega (arith, l)
-moved_stops line t s (Deliver to) h l = omega (arith, l)
+moved_stops line t s _ h l = omega (arith, l)
 
 first_step : (line : Line) (t : ℕ) (s : Story) (a b : Authority) (f : FirstIs line t s a) (g : FirstIs line t s b) → f.step ≡ g.step
 first_step line t s a b f g = some_same f.step g.step (sym f.first ∙ g.first)
-
--- One entry further.
-
-module _ (t : ℕ) (x : Made) (s : Story) where
-  number_on : enters t x.event ≡ true → last_number t (x ∷ s) ≡ 1
-  unfolding last_number
-  number_on h = rw h refl
-
-  limit_on : enters t x.event ≡ true → limit_held t (x ∷ s) ≡ entry_authority t s
-  unfolding limit_held
-  limit_on h = rw h refl
-
-  pub number_next : enters t x.event ≡ false → entered t s ≡ true → last_number t (x ∷ s) ≡ max (last_number t s) (taken_number t (world_took x))
-  unfolding last_number
-  number_next h on = rw (h, on) refl
-
-  pub number_off : enters t x.event ≡ false → entered t s ≡ false → last_number t (x ∷ s) ≡ last_number t s
-  unfolding last_number
-  number_off h off = rw (h, off) refl
-
-  limit_next : enters t x.event ≡ false → entered t s ≡ true → nat_lt (last_number t s) (taken_number t (world_took x)) ≡ true → limit_held t (x ∷ s) ≡ taken_path t (world_took x)
-  unfolding limit_held
-  limit_next h on new = rw (h, on, new) refl
-
-  limit_still : enters t x.event ≡ false → nat_lt (last_number t s) (taken_number t (world_took x)) ≡ false → limit_held t (x ∷ s) ≡ limit_held t s
-  unfolding limit_held
-  limit_still h old = by_test (entered t s) (λ on. rw (h, on, old) refl) (λ off. rw (h, off) refl)
 
 -- a train that has not come on has no number
 off_number : (t : ℕ) (s : Story) → entered t s ≡ false → last_number t s ≡ 0
@@ -153,7 +121,7 @@ module _ (line : Line) (t : ℕ) (s : Story) (x : Made) (k : Authorized line t s
         let j = k.limit on in
         let h = j.held in
         let a = j.authority in
-        let is = limit_still t x s no none ∙ j.is in
+        let is = limit_kept t x s no none ∙ j.is in
         let p = held_is h is a in
         let was = held_was h j.is in
         let old = j.number in

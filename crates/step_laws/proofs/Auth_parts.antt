@@ -5,7 +5,7 @@ use Rattle.std.proofs.lemmas.Bool.{eqb-true}
 use Rattle.std.specs.Prelude.{nat_eq, nat_le, is_some}
 use Rattle.track_points.proofs.Some.{by_test}
 use Rattle.definitions.specs.declared.event.Event.{Event}
-use Rattle.definitions.specs.declared.event.Event.TheVariants.{Train, Entry, Enter, Ask, Step, Report, Time, Take, Deliver}
+use Rattle.definitions.specs.declared.event.Event.TheVariants.{Train, Enter}
 use Rattle.definitions.specs.declared.message.Msg.{Msg}
 use Rattle.definitions.specs.Track.{Line, seg_len, ranged}
 use Rattle.definitions.specs.Rules.{is_line}
@@ -17,25 +17,25 @@ use Rattle.definitions.specs.Fold.{account}
 use Rattle.definitions.specs.Farther.{end_or_0}
 use Rattle.definitions.specs.Longest.{counted, longest_end}
 use Rattle.definitions.specs.Fronts.{least_rear}
-use Rattle.plain_state.specs.Plain.{zone_id}
-use Rattle.motion_laws.proofs.Issued.{AllIn, AllIssued, all_weaker, in_all_weaker}
-use Rattle.motion_laws.proofs.Admitted.{Admitted}
-use Rattle.motion_laws.proofs.Stays.{long_stays}
-use Rattle.motion_laws.proofs.Notions.{both, told_stays, told_now, entered_same}
-use Rattle.motion_laws.proofs.Controls.{controls_same}
+use Rattle.definitions.specs.Zones.{zone_id}
+use Rattle.event_laws.proofs.Issued.{AllIn, AllIssued, all_weaker, in_all_weaker}
+use Rattle.event_laws.proofs.Admitted.{Admitted}
+use Rattle.event_laws.proofs.Stays.{long_stays}
+use Rattle.event_laws.proofs.Notions.{both, told_stays, told_now, entered_same}
+use Rattle.event_laws.proofs.Controls.{controls_same, known_same}
 use Rattle.motion_laws.proofs.Moves.{enter_once}
 use Rattle.sound_laws.proofs.Sound.{end_read, AuthorityIs, AuthIs, AuthTrue, FrontsAre, SomeIs, Controlled, EntryHeld, LimitIs, Authorized}
 use Rattle.sound_laws.proofs.One_route.{numbered_controls}
 use Rattle.authority_laws.proofs.Auth_places.{off_before, first_is_stays}
-use Rattle.authority_laws.proofs.Last_issued.{last_quiet, last_grows}
+use Rattle.event_laws.proofs.Last_issued.{last_quiet, last_grows}
 use Rattle.front_laws.proofs.Unshrunk.{counted_unanswered}
 use Rattle.authority_laws.proofs.Auth_new.{NewAuth, never}
 use Rattle.authority_laws.proofs.Auth_next.{last_new, new_top, reads_new, read_new, new_is, control_new}
 use Rattle.authority_laws.proofs.Auth_quiet.{unshrunk_quiet, unread_quiet, Going, AuthsStay, reads_still, quiet_stay, new_stay, held_stays, auths_stay, none_true, control_quiet}
-use Rattle.front_laws.proofs.Front_moves.{known_same}
 use Rattle.front_laws.proofs.Route_goes_on.{read_stays}
 use Rattle.step_laws.proofs.Auth_issues.{Issues, quiet, issues}
-use Rattle.step_laws.proofs.Auth_taken.{TakenIs, AnswerIs, quiet_grants}
+use Rattle.event_laws.proofs.Grants.{quiet_grants}
+use Rattle.step_laws.proofs.Auth_taken.{TakenIs, AnswerIs}
 use Rattle.step_laws.proofs.Auth_limit.{limit_comes, limit_goes}
 use Rattle.authority_laws.proofs.Rear_grows.{rear_grows}
 
@@ -49,14 +49,7 @@ declared_long line t s (Train u long error speed kind) h its = by_test (nat_eq u
     let some : 1 ≤ long = grind (arith, nat_tests) in
     rw y some)
     (λ n. absurd (let c : false ≡ true = rw n at its in cc))
-declared_long line t s (Entry u step) h its = absurd cc
-declared_long line t s (Enter u) h its = absurd cc
-declared_long line t s (Ask u z steps to) h its = absurd cc
-declared_long line t s (Step ms moves) h its = absurd cc
-declared_long line t s (Report u z step offset whole) h its = absurd cc
-declared_long line t s (Time z u) h its = absurd cc
-declared_long line t s (Take to from number) h its = absurd cc
-declared_long line t s (Deliver to) h its = absurd cc
+declared_long line t s _ h its = absurd cc
 
 pub long_next : (line : Line) (t : ℕ) (s : Story) (x : Made) → built line s x.event ≡ true → (is_declared t s ≡ true → 1 ≤ long_of t s) → is_declared t (x ∷ s) ≡ true → 1 ≤ long_of t (x ∷ s)
 long_next line t s x b k h = by_facts (facts_of t s) refl
@@ -233,14 +226,7 @@ module _ (line : Line) (t : ℕ) (s : Story) (x : Made) (valid : is_line line �
     -- a train that comes on holds its entry authority
     holds : (e : Event) → enters_rightly s e ≡ true → enters t e ≡ true → is_some (entry_authority t s) ≡ true
     holds (Enter u) h its = subst (λ (n : ℕ). is_some (entry_authority n s) ≡ true) (eqb-true u.0 t its) (both (is_some (entry_authority u.0 s)) (not (entered u.0 s)) h).0
-    holds (Train u long error speed kind) h its = absurd cc
-    holds (Entry u step) h its = absurd cc
-    holds (Ask u z steps to) h its = absurd cc
-    holds (Step ms moves) h its = absurd cc
-    holds (Report u z step offset whole) h its = absurd cc
-    holds (Time z u) h its = absurd cc
-    holds (Take to from number) h its = absurd cc
-    holds (Deliver to) h its = absurd cc
+    holds _ h its = absurd cc
 
     some_held : (g : Option HeldPath) → entry_authority t s ≡ g → is_some g ≡ true → (h : HeldPath) × (entry_authority t s ≡ Some h)
     some_held None is h = absurd cc

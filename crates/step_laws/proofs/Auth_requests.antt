@@ -1,5 +1,5 @@
 -- What requests for entry, asks and answers say.
-use Rattle.std.proofs.Common.{◌≡◌, ℕ, zero, suc, ◌-◌, ◌≤◌, List, [], ◌∷◌, Option, Some, None, Bool, true, false, refl, sym, ◌∙◌, ap, subst, arith}
+use Rattle.std.proofs.Common.{◌≡◌, ℕ, zero, suc, ◌-◌, ◌≤◌, ◌∷◌, Option, Some, None, Bool, true, false, refl, sym, ◌∙◌, ap, subst, arith}
 use Rattle.std.proofs.lemmas.Bool.{eqb-true}
 use Rattle.std.specs.Prelude.{nat_eq, nat_lt, is_some}
 use Rattle.std.specs.List.{list_all}
@@ -9,26 +9,23 @@ use Rattle.track_points.specs.declared.ids.TrainId.{TrainId}
 use Rattle.track_points.specs.Points.{dir_eq, step_eq}
 use Rattle.track_points.proofs.Some.{by_test}
 use Rattle.definitions.specs.declared.event.Event.{Event}
-use Rattle.definitions.specs.declared.event.Event.TheVariants.{Train, Entry, Enter, Ask, Step, Report, Time, Take, Deliver}
+use Rattle.definitions.specs.declared.event.Event.TheVariants.{Entry, Enter, Ask, Report, Time, Take}
 use Rattle.definitions.specs.declared.message.Msg.{Msg}
 use Rattle.definitions.specs.declared.message.Msg.TheVariants as msg
-use Rattle.definitions.specs.Track.{Line, seg_len, zone_of, has_zone, begins_at_portal}
+use Rattle.definitions.specs.Track.{Line, zone_of, has_zone, begins_at_portal}
 use Rattle.definitions.specs.Premises.{on_line, same_portal}
 use Rattle.definitions.specs.Story.{Entry as Made, Story}
 use Rattle.definitions.specs.World.{Facts, clock, facts_of, is_declared, entry_in, first_entry, enters, entered, HeldPath, entry_authority, auth_number, last_number}
-use Rattle.definitions.specs.Control.{controls, knows, knows_most, now_with, last_issued}
-use Rattle.definitions.specs.Longest.{counted}
-use Rattle.definitions.specs.Authority.{way, holder_of}
-use Rattle.definitions.specs.Limit.{limit}
+use Rattle.definitions.specs.Control.{last_issued}
 use Rattle.definitions.specs.Steps.{sender_of, entering, requesting, taking_auth, world_takes, zone_takes, taking, message, effects}
-use Rattle.motion_laws.proofs.Issued.{AllIn, AllIssued, all_weaker}
-use Rattle.motion_laws.proofs.Notions.{both, number_most, told_now, ever_now}
-use Rattle.motion_laws.proofs.Admitted.{Admitted}
-use Rattle.motion_laws.proofs.Stays.{facts_stay, first_stays, entered_stays}
+use Rattle.event_laws.proofs.Issued.{AllIn, AllIssued, all_weaker}
+use Rattle.event_laws.proofs.Notions.{both, number_most, told_now, ever_now}
+use Rattle.event_laws.proofs.Admitted.{Admitted}
+use Rattle.event_laws.proofs.Stays.{facts_stay, first_stays, entered_stays}
 use Rattle.way_laws.proofs.Lines.{dir_same}
 use Rattle.sound_laws.proofs.Sound.{RequestTrue, EntryIs, Authorized}
-use Rattle.authority_laws.proofs.Last_issued.{last_grows}
-use Rattle.step_laws.proofs.Auth_issues.{entry_cases, ask_cases, time_cases, report_none}
+use Rattle.event_laws.proofs.Last_issued.{last_grows}
+use Rattle.event_laws.proofs.Answers.{zone_each}
 
 -- what was said stays true
 
@@ -43,9 +40,7 @@ request_stays : (line : Line) (t : ℕ) (x : Made) (s : Story) (m : Msg) → Req
 request_stays line t x s (msg.EntryAsk u time long error speed equipped step) h = λ y. entry_stays line t x s long error speed step (h y)
 request_stays line t x s (msg.Ask u time steps to) h = h
 request_stays line t x s (msg.Answer u time number taken) h = λ y. let a = (h y).0 in let b = last_grows t x s in (omega (arith, a, b), entered_stays t x s (h y).1)
-request_stays line t x s (msg.Auth u number mark path) h = tt
-request_stays line t x s (msg.Report u time mark offset integrity) h = tt
-request_stays line t x s (msg.Time time u) h = tt
+request_stays line t x s _ h = tt
 
 pub requests_stay : (line : Line) (t : ℕ) (x : Made) (s : Story) → AllIssued (RequestTrue line t s) s → AllIssued (RequestTrue line t (x ∷ s)) s
 requests_stay line t x s k = all_weaker (RequestTrue line t s) (RequestTrue line t (x ∷ s)) (request_stays line t x s) s k
@@ -121,38 +116,10 @@ module _ (line : Line) (t : ℕ) (s : Story) (k : Authorized line t s) where
     where
       number_is : nat_eq u.0 t ≡ true → number ≤ last_issued t s
       number_is y = rw y at most
-  world_requests from (msg.EntryAsk u time long error speed equipped step) most x = tt
-  world_requests from (msg.Ask u time steps to) most x = tt
-  world_requests from (msg.Report u time mark offset integrity) most x = tt
-  world_requests from (msg.Time time u) most x = tt
-  world_requests from (msg.Answer u time number taken) most x = tt
-
-  none_asked : (x : Made) (issued : List (ℕ × Msg)) → issued ≡ [] → AllIn (RequestTrue line t (x ∷ s)) issued
-  unfolding AllIn
-  none_asked x issued h = rw h tt
-
-  auth_asked : (x : Made) (number mark : ℕ) (u : TrainId) (path : _) (issued : List (ℕ × Msg)) → issued ≡ (0, msg.Auth u number mark path) ∷ [] → AllIn (RequestTrue line t (x ∷ s)) issued
-  unfolding AllIn
-  auth_asked x number mark u path issued h = rw h (tt, tt)
+  world_requests from _ most x = tt
 
   zone_requests : (z from : ℕ) (m : Msg) (x : Made) → AllIn (RequestTrue line t (x ∷ s)) (zone_takes line z from s m).issued
-  unfolding AllIn
-  zone_requests z from (msg.EntryAsk u time long error speed equipped step) x =
-      let issued = (zone_takes line z from s (msg.EntryAsk u time long error speed equipped step)).issued in
-      entry_cases (AllIn (RequestTrue line t (x ∷ s)) issued) z (knows z u.0 s) (knows_most z s) (seg_len line step.seg.0) u long step (holder_of line z s step.seg.0)
-      (λ h. none_asked x issued h) (λ free fitting h. auth_asked x 1 0 u _ issued h)
-  zone_requests z from (msg.Ask u time steps to) x =
-      let q = msg.Ask u time steps to in
-      let issued = (zone_takes line z from s q).issued in
-      ask_cases (AllIn (RequestTrue line t (x ∷ s)) issued) (seg_len line) z u (last_issued u.0 s) (way line z u.0 s) steps.items (limit line z u.0 s (now_with z s q) steps.items to)
-      (λ h. none_asked x issued h) (λ v is far h. auth_asked x _ v.mark u _ issued h)
-  zone_requests z from (msg.Time time u) x =
-      let issued = (zone_takes line z from s (msg.Time time u)).issued in
-      time_cases (AllIn (RequestTrue line t (x ∷ s)) issued) (controls z u.0 s) (counted line u.0 s) (last_issued u.0 s) u (way line z u.0 s)
-      (λ h. none_asked x issued h) (λ v is c h. auth_asked x _ v.mark u v.path issued h)
-  zone_requests z from (msg.Report u time mark offset integrity) x = none_asked x _ (report_none line z s u (msg.Report u time mark offset integrity))
-  zone_requests z from (msg.Answer u time number taken) x = tt
-  zone_requests z from (msg.Auth u number mark path) x = tt
+  zone_requests z from m x = zone_each (RequestTrue line t (x ∷ s)) line z from s m (λ number mark path most. tt)
 
   take_requests : (e : Event) (to from number : ℕ) (m : Option Msg) → message from to number s ≡ m → (x : Made) → AllIn (RequestTrue line t (x ∷ s)) (taking line s e to from m).issued
   unfolding AllIn
@@ -162,13 +129,11 @@ module _ (line : Line) (t : ℕ) (s : Story) (k : Authorized line t s) where
 
   pub effect_requests : (e : Event) → Admitted line s e → AllIn (RequestTrue line t (effects line s e ∷ s)) (effects line s e).issued
   unfolding AllIn
-  effect_requests (Train u long error speed kind) a = tt
   effect_requests (Entry u step) a =
       asked_now u step (facts_of u.0 s) refl (both (is_declared u.0 s) (begins_at_portal line step) a.form).1 a.entering (effects line s (Entry u step)) refl
   effect_requests (Enter u) a = entered_now u (entry_authority u.0 s) refl (effects line s (Enter u)) refl
   effect_requests (Ask u zone steps to) a = (λ y. (both (has_zone line zone.0) (list_all (on_line line) steps.items) (both (is_declared u.0 s) _ a.form).1).1, tt)
-  effect_requests (Step ms moves) a = tt
   effect_requests (Report u zone step offset whole) a = (tt, tt)
   effect_requests (Time zone u) a = (tt, tt)
   effect_requests (Take to from number) a = take_requests (Take to from number) to from number (message from to number s) refl (effects line s (Take to from number))
-  effect_requests (Deliver to) a = tt
+  effect_requests _ a = tt

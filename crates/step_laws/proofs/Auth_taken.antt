@@ -1,27 +1,27 @@
 -- What an event takes: an answer, and an authority that the world takes.
-use Rattle.std.proofs.Common.{◌≡◌, ℕ, zero, suc, ◌-◌, ◌≤◌, List, [], Option, Some, None, true, false, ◌&&◌, not, refl, sym, ◌∙◌, subst, arith}
+use Rattle.std.proofs.Common.{◌≡◌, ℕ, zero, suc, ◌-◌, ◌≤◌, List, Option, Some, None, true, false, refl, sym, ◌∙◌, subst, arith}
 use Rattle.std.proofs.lemmas.Bool.{eqb-true}
 use Rattle.std.specs.Prelude.{nat_eq}
-use Rattle.std.specs.List.{list_any}
 use Rattle.track_points.proofs.Some.{by_test}
 use Rattle.definitions.specs.declared.event.Event.{Event}
-use Rattle.definitions.specs.declared.event.Event.TheVariants.{Train, Entry, Enter, Ask, Step, Report, Time, Take, Deliver}
+use Rattle.definitions.specs.declared.event.Event.TheVariants.{Take}
 use Rattle.definitions.specs.declared.message.Msg.{Msg}
 use Rattle.definitions.specs.declared.message.Msg.TheVariants as msg
-use Rattle.definitions.specs.Track.{Line, is_actor}
+use Rattle.definitions.specs.Track.{Line}
 use Rattle.definitions.specs.Story.{Entry as Made, Story, by_world, world_took}
-use Rattle.definitions.specs.World.{entered, HeldPath, Authority, is_auth, auth_number, taken_number, taken_path}
-use Rattle.definitions.specs.Control.{asks_entry, grants_entry, last_issued}
-use Rattle.definitions.specs.Steps.{taking, message, effects}
+use Rattle.definitions.specs.World.{entered, HeldPath, Authority, auth_number, taken_number, taken_path}
+use Rattle.definitions.specs.Control.{grants_entry, last_issued}
+use Rattle.definitions.specs.Steps.{world_takes, zone_step, made, effects}
 use Rattle.definitions.specs.Safe.{IsLineOfOneZone}
-use Rattle.plain_state.specs.Plain.{zone_id}
-use Rattle.motion_laws.proofs.Issued.{in_false_all, issued_all}
-use Rattle.motion_laws.proofs.Notions.{both, number_most}
-use Rattle.motion_laws.proofs.Admitted.{Admitted}
+use Rattle.event_laws.proofs.Grants.{granter, quiet_grants}
+use Rattle.definitions.specs.Zones.{zone_id}
+use Rattle.event_laws.proofs.Notions.{number_most}
+use Rattle.event_laws.proofs.Admitted.{Admitted}
 use Rattle.sound_laws.proofs.Sound.{RequestTrue, AuthIs, AuthTrue, Authorized}
 use Rattle.front_laws.proofs.Unshrunk.{answers}
-use Rattle.step_laws.proofs.Auth_issues.{NoAuth}
-use Rattle.step_laws.proofs.Auth_takes.{taker_is, world_takes_none}
+use Rattle.event_laws.proofs.Answers.{world_none}
+use Rattle.event_laws.proofs.Does.{by_does, take_actors, take_issued}
+use Rattle.step_laws.proofs.Auth_takes.{taker_is}
 
 -- an authority that the world takes was issued
 pub record TakenIs (line : Line) (t : ℕ) (s : Story) (took : Option (ℕ × Msg)) : Type 0 where
@@ -80,63 +80,28 @@ auth_taken line t s from (msg.Auth u number mark path) most is = by_test (nat_eq
     one y k h e =
         let e2 : Some (record { zone = from; authority = record { mark = mark; path = path } }) ≡ Some h = rw y at e in
         rw y (subst (λ (a : Authority). AuthIs line t s number a) (same h e2) k)
-auth_taken line t s from (msg.Report u time mark offset integrity) most is = record { known = omega arith; some = λ h. absurd (omega (arith, h)); is = λ h e. absurd (let c : None ≡ Some h = e in cc) }
-auth_taken line t s from (msg.Time time u) most is = record { known = omega arith; some = λ h. absurd (omega (arith, h)); is = λ h e. absurd (let c : None ≡ Some h = e in cc) }
-auth_taken line t s from (msg.EntryAsk u time long error speed equipped step) most is = record { known = omega arith; some = λ h. absurd (omega (arith, h)); is = λ h e. absurd (let c : None ≡ Some h = e in cc) }
-auth_taken line t s from (msg.Ask u time steps to) most is = record { known = omega arith; some = λ h. absurd (omega (arith, h)); is = λ h e. absurd (let c : None ≡ Some h = e in cc) }
-auth_taken line t s from (msg.Answer u time number taken) most is = record { known = omega arith; some = λ h. absurd (omega (arith, h)); is = λ h e. absurd (let c : None ≡ Some h = e in cc) }
+auth_taken line t s from _ most is = record { known = omega arith; some = λ h. absurd (omega (arith, h)); is = λ h e. absurd (let c : None ≡ Some h = e in cc) }
 
 answer_taken : (line : Line) (t : ℕ) (s : Story) (from : ℕ) (m : Msg) → RequestTrue line t s m → AnswerIs t s (Some (from, m))
 answer_taken line t s from (msg.Answer u time number taken) is = λ off. by_test (nat_eq u.0 t)
     (λ y. absurd (let c : true ≡ false = sym (is y).1 ∙ off in cc))
     (λ n. n)
-answer_taken line t s from (msg.Report u time mark offset integrity) is = λ off. refl
-answer_taken line t s from (msg.Time time u) is = λ off. refl
-answer_taken line t s from (msg.EntryAsk u time long error speed equipped step) is = λ off. refl
-answer_taken line t s from (msg.Ask u time steps to) is = λ off. refl
-answer_taken line t s from (msg.Auth u number mark path) is = λ off. refl
+answer_taken line t s from _ is = λ off. refl
 
--- who grants entry acts, and issues an authority
-pub granter : (y t : ℕ) (x : Made) → grants_entry y t x ≡ true → (nat_eq x.actor y ≡ true) × (list_any (λ (i : ℕ × Msg). is_auth t i.1) x.issued ≡ true)
-granter y t x h =
-    let a = both (nat_eq x.actor y) (asks_entry t x.took && list_any (λ (i : ℕ × Msg). is_auth t i.1) x.issued) h in
-    (a.0, (both (asks_entry t x.took) (list_any (λ (i : ℕ × Msg). is_auth t i.1) x.issued) a.1).1)
-
-pub quiet_grants : (y t : ℕ) (x : Made) → NoAuth t x.issued → grants_entry y t x ≡ false
-quiet_grants y t x quiet = by_test (grants_entry y t x)
-    (λ h. absurd (let c : true ≡ false = sym (granter y t x h).1 ∙ in_false_all (is_auth t) x.issued quiet in cc))
-    (λ n. n)
-
-module _ (line : Line) (s : Story) (one : IsLineOfOneZone line) (t : ℕ) (k : Authorized line t s) where
-  took_message : (e : Event) (to from number : ℕ) (m : Option Msg) → is_actor line to ≡ true → message from to number s ≡ m
-      → (to ≡ 0 → NoAuth t (taking line s e to from m).issued) → TookIs line t s (taking line s e to from m)
-  took_message e to from number None acts is world = took_none line t s e to [] []
-  took_message e zero from number (Some m) acts is world = record {
-    world = auth_taken line t s from m (number_most (auth_number t) from 0 s (number - 1) m is) (issued_all (AuthTrue line t s) from 0 s (number - 1) m k.auths is);
-    answer = answer_taken line t s from m (issued_all (RequestTrue line t s) from 0 s (number - 1) m k.requests is);
-    zone = λ y h. absurd (let c : false ≡ true = sym (quiet_grants y t (taking line s e 0 from (Some m)) (world refl)) ∙ h in cc);
-  }
-  took_message e (suc z) from number (Some m) acts is world = record {
-    world = no_taken line t s;
-    answer = answer_taken line t s from m (issued_all (RequestTrue line t s) from (suc z) s (number - 1) m k.requests is);
-    zone = λ y h. zone_of_line y (granter y t (taking line s e (suc z) from (Some m)) h).0;
-  }
-    where
-      zone_of_line : (y : ℕ) → nat_eq (suc z) y ≡ true → y ≡ zone_id line
-      zone_of_line y h = sym (eqb-true (suc z) y h) ∙ taker_is line z one acts
-
-  pub effect_took_is : (e : Event) → Admitted line s e → TookIs line t s (effects line s e)
-  effect_took_is (Train u long error speed kind) a = took_none line t s _ 0 _ _
-  effect_took_is (Entry u step) a = took_none line t s _ 0 _ _
-  effect_took_is (Enter u) a = took_none line t s _ 0 _ _
-  effect_took_is (Ask u zone steps to) a = took_none line t s _ 0 _ _
-  effect_took_is (Step ms moves) a = took_none line t s _ 0 _ _
-  effect_took_is (Report u zone step offset whole) a = took_none line t s _ 0 _ _
-  effect_took_is (Time zone u) a = took_none line t s _ 0 _ _
-  effect_took_is (Take to from number) a =
-      let acts = (both (is_actor line to) (is_actor line from) (both (not (nat_eq to from)) (is_actor line to && is_actor line from) a.form).1).0 in
-      took_message (Take to from number) to from number (message from to number s) acts refl (λ h. world_quiet h (message from to number s))
-    where
-      world_quiet : to ≡ 0 → (m : Option Msg) → NoAuth t (taking line s (Take to from number) to from m).issued
-      world_quiet h m = subst (λ (a : ℕ). NoAuth t (taking line s (Take to from number) a from m).issued) (sym h) (world_takes_none t line s (Take to from number) from m)
-  effect_took_is (Deliver to) a = took_none line t s _ 0 _ _
+pub effect_took_is : (line : Line) (s : Story) → IsLineOfOneZone line → (t : ℕ) → Authorized line t s → (e : Event) → Admitted line s e → TookIs line t s (effects line s e)
+effect_took_is line s one t auth e a = by_does line s e (λ x. TookIs line t s x)
+    (λ b x i. took_none line t s e b x.issued x.lines)
+    (λ from m k.
+    let x = made (Take 0 from k.number) 0 (Some (from, m)) (world_takes s from m) in
+    record {
+      world = auth_taken line t s from m (number_most (auth_number t) from 0 s (k.number - 1) m k.was_sent) (take_issued (AuthTrue line t s) s e 0 from m auth.auths k);
+      answer = answer_taken line t s from m (take_issued (RequestTrue line t s) s e 0 from m auth.requests k);
+      zone = λ y h. absurd (let c : false ≡ true = sym (quiet_grants y t x (world_none t s from m)) ∙ h in cc);
+    })
+    (λ z from m k.
+    let x = made (Take (suc z) from k.number) (suc z) (Some (from, m)) (zone_step line (suc z) from s m) in
+    record {
+      world = no_taken line t s;
+      answer = answer_taken line t s from m (take_issued (RequestTrue line t s) s e (suc z) from m auth.requests k);
+      zone = λ y h. sym (eqb-true (suc z) y (granter y t x h).0) ∙ taker_is line z one (take_actors line s e (suc z) from m a k).1.0;
+    })

@@ -9,13 +9,14 @@ use Rattle.definitions.specs.Fold.{account}
 use Rattle.definitions.specs.Longest.{counted, longest_end}
 use Rattle.definitions.specs.Steps.{effects}
 use Rattle.definitions.specs.Safe.{IsLineOfOneZone}
-use Rattle.plain_state.specs.Plain.{zone_id}
+use Rattle.definitions.specs.Zones.{zone_id}
 use Rattle.motion_laws.proofs.Motion.{Timed}
-use Rattle.motion_laws.proofs.Issued.{AllIssued}
-use Rattle.motion_laws.proofs.Admitted.{Admitted}
-use Rattle.motion_laws.proofs.Moves.{enter_once, effect_event}
+use Rattle.event_laws.proofs.Issued.{AllIssued}
+use Rattle.event_laws.proofs.Admitted.{Admitted}
+use Rattle.event_laws.proofs.Does.{effect_event}
+use Rattle.motion_laws.proofs.Moves.{enter_once}
 use Rattle.sound_laws.proofs.Sound.{RequestTrue, Authorized, Sound}
-use Rattle.authority_laws.proofs.Last_issued.{last_grows}
+use Rattle.event_laws.proofs.Last_issued.{last_grows}
 use Rattle.authority_laws.proofs.Auth_new.{counted_next}
 use Rattle.authority_laws.proofs.Auth_quiet.{Going}
 use Rattle.step_laws.proofs.Auth_limit.{going, number_grows}

@@ -7,10 +7,10 @@ use Rattle.definitions.specs.Story.{Story}
 use Rattle.definitions.specs.Steps.{effects, story_of}
 use Rattle.std.specs.Prelude.{nat_eq}
 use Rattle.definitions.specs.Fold.{account}
-use Rattle.plain_state.specs.Plain.{zone_id}
+use Rattle.definitions.specs.Zones.{zone_id}
 use Rattle.front_laws.proofs.Unshrunk.{none_taken}
 use Rattle.front_laws.proofs.Front_step.{takes_some}
-use Rattle.motion_laws.proofs.Admitted.{Admitted, admitted}
+use Rattle.event_laws.proofs.Admitted.{Admitted, admitted}
 use Rattle.motion_laws.proofs.Motion.{Timed, motion_start, motion_step, heads_grow}
 use Rattle.motion_laws.proofs.Times.{timed_step, timed_story}
 use Rattle.sound_laws.proofs.Sound.{Sound}

@@ -10,21 +10,35 @@ use Rattle.definitions.specs.Ways.{PlainWay, chained, first_len, path_in_range}
 use Rattle.way_path.specs.declared.way.WayFault.{WayFault}
 use Rattle.way_path.specs.declared.way.WayFault.TheVariants.{NotJoined, Repeated, OutOfRange, Throats, Full}
 
+-- a way, with the place where it ends kept beside its path
+pub record PlacedWay : Type 0 where
+  pub mark : ℕ
+  pub path : Path
+  pub end : ℕ
+
+-- the way without that place
+abbrev pub plain_way : PlacedWay → PlainWay
+plain_way way = record { mark = way.mark; path = way.path }
+
+-- the way with that place
+abbrev pub with_end : Lengths → PlainWay → PlacedWay
+with_end len way = record { mark = way.mark; path = way.path; end = end_place len way.path }
+
 -- what every way is
-pub record IsWay (way : PlainWay) : Type 0 where
+pub record IsWay (way : PlacedWay) : Type 0 where
   pub some : 0 < length way.path.steps.items
   pub once : no_segment_twice way.path.steps.items ≡ true
   pub order : way.path.from < way.end
   pub marks : way.mark + length way.path.steps.items < 2 ^ 32
 
 -- what holds of a way on its line: it is joined, begins on its first step, and ends on its steps
-pub record OnLine (line : Line) (way : PlainWay) : Type 0 where
+pub record OnLine (line : Line) (way : PlacedWay) : Type 0 where
   pub joined : chained line way.path.steps.items ≡ true
   pub first : way.path.from ≤ first_len (seg_len line) way.path.steps.items
   pub within : way.end ≤ total (seg_len line) way.path.steps.items
 
 -- the way's end is that of its path; so it is unless the way was extended and its end not set since
-abbrev pub EndsWithPath : Lengths → PlainWay → Type 0
+abbrev pub EndsWithPath : Lengths → PlacedWay → Type 0
 EndsWithPath len way = way.end ≡ end_place len way.path
 
 -- the least index, from 0, of a step that does not follow the one before it
@@ -53,7 +67,7 @@ EndsAt len path (Some end) = (path_in_range len path ≡ true) × (end ≡ end_p
 EndsAt len path None = path_in_range len path ≡ false
 
 -- a path with its mark: the way, or the first of the faults that it has
-abbrev pub Makes : Line → ℕ → Path → Result PlainWay WayFault → Type 0
+abbrev pub Makes : Line → ℕ → Path → Result PlacedWay WayFault → Type 0
 Makes line mark path (Ok way) =
     (chained line path.steps.items ≡ true) × (no_segment_twice path.steps.items ≡ true) × (path_in_range (seg_len line) path ≡ true)
     × (way ≡ record { mark = mark; path = path; end = end_place (seg_len line) path })
@@ -65,14 +79,14 @@ Makes line mark path (Err Throats) = ⊥
 Makes line mark path (Err Full) = ⊥
 
 -- the place of an offset on the journey's step of a mark; none where the way has no such step
-abbrev pub place_of : Lengths → PlainWay → ℕ → ℤ → Option ℤ
+abbrev pub place_of : Lengths → PlacedWay → ℕ → ℤ → Option ℤ
 place_of len way mark off =
     if nat_le way.mark mark && nat_lt (mark - way.mark) (length way.path.steps.items)
     then Some (pos (total len (take (mark - way.mark) way.path.steps.items)) +ℤ off)
     else None
 
 -- a way with one more step; the end stays
-abbrev pub with_step : PlainWay → DirSeg → PlainWay
+abbrev pub with_step : PlacedWay → DirSeg → PlacedWay
 with_step way step = record {
   mark = way.mark;
   path = record { steps = record { items = way.path.steps.items ++ step ∷ [] }; from = way.path.from; to = way.path.to };
@@ -80,7 +94,7 @@ with_step way step = record {
 }
 
 -- a further step: the way has it, or stays as it was and the step is refused by the first of its faults
-abbrev pub Extends : Line → PlainWay → DirSeg → Result ⊤ WayFault → PlainWay → Type 0
+abbrev pub Extends : Line → PlacedWay → DirSeg → Result ⊤ WayFault → PlacedWay → Type 0
 Extends line old step (Ok _) new =
     (length old.path.steps.items < 24) × (follows line (last_step old.path.steps.items) step ≡ true) × (visits old.path.steps.items step.seg.0 ≡ false)
     × (new ≡ with_step old step)
@@ -94,12 +108,12 @@ Extends line old step (Err OutOfRange) new = ⊥
 Extends line old step (Err Throats) new = ⊥
 
 -- a way that ends at a place of it; the steps past the place are dropped
-abbrev pub ended_at : Lengths → PlainWay → ℕ → PlainWay
+abbrev pub ended_at : Lengths → PlacedWay → ℕ → PlacedWay
 ended_at len way place = record { mark = way.mark; path = path_to len way.path.from way.path.steps.items place; end = place }
 
 -- a way that begins at a place of it: the steps wholly before the place are dropped, and places are counted from the start
 -- of what is left
-pub record Dropped (len : Lengths) (old new : PlainWay) (place mm : ℕ) : Type 0 where
+pub record Dropped (len : Lengths) (old new : PlacedWay) (place mm : ℕ) : Type 0 where
   pub steps : List DirSeg
   pub split : old.path.steps.items ≡ steps ++ new.path.steps.items
   pub dropped : mm ≡ total len steps

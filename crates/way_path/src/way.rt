@@ -48,10 +48,9 @@ pub struct Way {
 }
 
 impl Model for Way {
-    ghost use Rattle.definitions.specs.Ways.{PlainWay};
-    ghost use Rattle.way_path.specs.Ways.{IsWay};
+    ghost use Rattle.way_path.specs.Ways.{PlacedWay, IsWay};
 
-    ghost Value = { PlainWay };
+    ghost Value = { PlacedWay };
 
     ghost view = { λ w. record { mark = w.mark; path = w.path; end = w.end } };
 

@@ -85,13 +85,9 @@ event_stays line w (Entry t step) on built h =
 event_stays line w (Enter t) on built h =
     let k = both (is_some (authority_found (find_train t.0 w.trains))) (not (on_found (find_train t.0 w.trains))) (enters w (Enter t) h) in
     record { valid = on.valid; each = enter_stays line t.0 w.trains k.0 on.each }
-event_stays line w (Ask t z steps to) on built h = on
 event_stays line w (Step ms moves) on built h =
     record { valid = on.valid; each = moves_stay line 0 moves.items w.trains on.valid built (stops w (Step ms moves) h) on.each }
-event_stays line w (Report t z step offset whole) on built h = on
-event_stays line w (Time z t) on built h = on
-event_stays line w (Take to from number) on built h = on
-event_stays line w (Deliver to) on built h = on
+event_stays line w _ on built h = on
 
 auth_stays : (line : Line) (trains : List WorldTrain) (from t number mark : ℕ) (path : Path) → is_line line ≡ true → auth_fits line mark path ≡ true
     → train_heeds (seg_len line) (find_train t trains) number mark path ≡ true → AllOn line trains → AllOn line (change_train t (took_auth (seg_len line) from number mark path) trains)
@@ -104,11 +100,7 @@ take_stays line w from (msg.Auth t number mark path) on = by_test (world_heeds l
     let k = both (auth_fits line mark path) (train_heeds (seg_len line) (find_train t.0 w.trains) number mark path) y in
     rw y (record { valid = on.valid; each = auth_stays line w.trains from t.0 number mark path on.valid k.0 k.1 on.each }))
     (λ n. rw n on)
-take_stays line w from (msg.Report u time mark offset integrity) on = on
-take_stays line w from (msg.Time time u) on = on
-take_stays line w from (msg.EntryAsk u time long error speed equipped step) on = on
-take_stays line w from (msg.Ask u time steps to) on = on
-take_stays line w from (msg.Answer u time number taken) on = on
+take_stays line w from _ on = on
 
 -- what is left of the moves behind the first
 rest_all : {A : Type 0} (xs : List A) → take (length xs - 1) (drop 1 xs) ≡ drop 1 xs

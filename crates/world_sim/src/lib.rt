@@ -4,4 +4,5 @@
 mod trains;
 pub mod world;
 
+pub use msg_codec::{Event, Outcome};
 pub use world::{Premise, World};

@@ -7,7 +7,7 @@ use Rattle.track_points.specs.Points.{Lengths, end_place, visits}
 use Rattle.track_points.proofs.Some.{by_test}
 use Rattle.definitions.specs.Track.{Line, seg_len, zone_of}
 use Rattle.plain_state.specs.Zone.{way_on}
-use Rattle.plain_state.specs.ZoneTrain.{ZoneTrain}
+use Rattle.plain_state.specs.declared.Controlled.{Controlled}
 use Rattle.zone_reach.specs.Held.{near_steps, near_way, near_ways}
 use Rattle.zone_reach.proofs.Nearest.{way_on_own, way_on_else}
 
@@ -23,19 +23,19 @@ steps_away len (w ∷ steps) lo hi st from h = by_test (nat_eq w.seg.0 st.seg.0)
     let rest = steps_away len steps (lo - len w.seg.0) (hi - len w.seg.0) st from (rw n at h) in
     rw (n, rest) (min_same (len st.seg.0)))
 
-pub ways_within : (len : Lengths) (t : ℕ) (ways : List ZoneTrain) (st : DirSeg) (from : ℕ) → near_ways len t ways st from ≤ len st.seg.0
+pub ways_within : (len : Lengths) (t : ℕ) (ways : List Controlled) (st : DirSeg) (from : ℕ) → near_ways len t ways st from ≤ len st.seg.0
 unfolding near_ways
 ways_within len t [] st from = omega arith
 ways_within len t (x ∷ ways) st from =
     let rest = ways_within len t ways st from in
     by_test (nat_eq x.id.0 t) (λ y. rw y rest) (λ n. rw n (omega arith))
 
-pub way_away : (len : Lengths) (x : ZoneTrain) (st : DirSeg) (from nearest : ℕ) → visits x.way.path.steps.items st.seg.0 ≡ false → nearest ≤ len st.seg.0 → min (near_way len x st from) nearest ≡ nearest
+pub way_away : (len : Lengths) (x : Controlled) (st : DirSeg) (from nearest : ℕ) → visits x.way.path.steps.items st.seg.0 ≡ false → nearest ≤ len st.seg.0 → min (near_way len x st from) nearest ≡ nearest
 way_away len x st from nearest h within =
     let away = steps_away len x.way.path.steps.items x.way.path.from (end_place len x.way.path) st from h in
     rw away (omega arith)
 
-pub on_away : (line : Line) (z s : ℕ) (x : ZoneTrain) → visits x.way.path.steps.items s ≡ false → way_on line z s x ≡ false
+pub on_away : (line : Line) (z s : ℕ) (x : Controlled) → visits x.way.path.steps.items s ≡ false → way_on line z s x ≡ false
 on_away line z s x h = by_test (nat_eq (zone_of line s) z)
     (λ y.
     let own : zone_of line s ≡ z = grind (arith, nat_tests) in

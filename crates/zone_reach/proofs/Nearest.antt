@@ -8,7 +8,7 @@ use Rattle.track_points.specs.Points.{Lengths, Layout, Point, Cell, mm_at, total
 use Rattle.track_points.proofs.Some.{by_test, same_bool, some_at, some_found}
 use Rattle.definitions.specs.Track.{Line, seg_len, layout, zone_of}
 use Rattle.definitions.specs.Limit.{on_step, passes}
-use Rattle.plain_state.specs.ZoneTrain.{ZoneTrain}
+use Rattle.plain_state.specs.declared.Controlled.{Controlled}
 use Rattle.plain_state.specs.Zone.{held_else_plain, barring_plain, way_on}
 use Rattle.zone_reach.specs.Held.{cells_on, first_in, near_step, near_steps, near_way, near_ways, near_on, first_held}
 use Rattle.way_path.specs.Ways.{step_has}
@@ -83,11 +83,11 @@ steps_are layout (w ∷ steps) lo hi st from =
     (λ k h. cells_first layout w steps lo hi st.seg.0 (mm_at (len st.seg.0) st.dir k))
     (nearest_two _ _ _ _ _ _ (step_is len w lo hi st from) (steps_are layout steps (lo - len w.seg.0) (hi - len w.seg.0) st from))
 
-pub way_is : (layout : Layout) (x : ZoneTrain) (st : DirSeg) (from : ℕ)
+pub way_is : (layout : Layout) (x : Controlled) (st : DirSeg) (from : ℕ)
     → IsNearest (λ k. path_has layout x.way.path (cell_on layout.len st k)) (layout.len st.seg.0) from (near_way layout.len x st from)
 way_is layout x st from = steps_are layout x.way.path.steps.items x.way.path.from (end_place layout.len x.way.path) st from
 
-ways_are : (layout : Layout) (t : ℕ) (ways : List ZoneTrain) (st : DirSeg) (from : ℕ)
+ways_are : (layout : Layout) (t : ℕ) (ways : List Controlled) (st : DirSeg) (from : ℕ)
     → IsNearest (λ k. held_else_plain layout ways t (cell_on layout.len st k)) (layout.len st.seg.0) from (near_ways layout.len t ways st from)
 unfolding near_ways
 ways_are layout t [] st from = nearest_none _ (layout.len st.seg.0) from (λ k h. refl)
@@ -96,7 +96,7 @@ ways_are layout t (x ∷ ways) st from =
     (λ y. rw y (ways_are layout t ways st from))
     (λ n. rw n (nearest_two _ _ _ _ _ _ (way_is layout x st from) (ways_are layout t ways st from)))
 
-pub on_is : (line : Line) (z : ℕ) (ways : List ZoneTrain) (t : ℕ) (st : DirSeg) (from : ℕ)
+pub on_is : (line : Line) (z : ℕ) (ways : List Controlled) (t : ℕ) (st : DirSeg) (from : ℕ)
     → IsNearest (λ k. barring_plain line z ways t (cell_on (seg_len line) st k)) (seg_len line st.seg.0) from (near_on line z ways t st from)
 on_is line z ways t st from =
     by_test (nat_eq (zone_of line st.seg.0) z)
@@ -104,23 +104,23 @@ on_is line z ways t st from =
     (λ n. rw n (nearest_none (λ k. false) (seg_len line st.seg.0) from (λ k h. refl)))
 
 -- the place is held
-abbrev pub held_at : Line → ℕ → List ZoneTrain → ℕ → List DirSeg → ℕ → Bool
+abbrev pub held_at : Line → ℕ → List Controlled → ℕ → List DirSeg → ℕ → Bool
 held_at line z ways t asked p = passes (layout line) (barring_plain line z ways t) (on_step (seg_len line) asked p)
 
-held_here : (line : Line) (z : ℕ) (ways : List ZoneTrain) (t : ℕ) (st : DirSeg) (asked : List DirSeg) (p : ℕ) → p < seg_len line st.seg.0
+held_here : (line : Line) (z : ℕ) (ways : List Controlled) (t : ℕ) (st : DirSeg) (asked : List DirSeg) (p : ℕ) → p < seg_len line st.seg.0
     → held_at line z ways t (st ∷ asked) p ≡ barring_plain line z ways t (cell_on (seg_len line) st p)
 unfolding on_step
 held_here line z ways t st asked p h =
     let y : nat_lt p (seg_len line st.seg.0) ≡ true = grind (arith, nat_tests) in
     rw y (cell_alone line (barring_plain line z ways t) st.seg.0 (mm_at (seg_len line st.seg.0) st.dir p))
 
-held_beyond : (line : Line) (z : ℕ) (ways : List ZoneTrain) (t : ℕ) (st : DirSeg) (asked : List DirSeg) (p : ℕ) → seg_len line st.seg.0 ≤ p
+held_beyond : (line : Line) (z : ℕ) (ways : List Controlled) (t : ℕ) (st : DirSeg) (asked : List DirSeg) (p : ℕ) → seg_len line st.seg.0 ≤ p
     → held_at line z ways t (st ∷ asked) p ≡ held_at line z ways t asked (p - seg_len line st.seg.0)
 unfolding on_step
 held_beyond line z ways t st asked p h = let n : nat_lt p (seg_len line st.seg.0) ≡ false = grind (arith, nat_tests) in rw n refl
 
 -- nothing is held behind the end of the steps
-pub held_behind : (line : Line) (z : ℕ) (ways : List ZoneTrain) (t : ℕ) (asked : List DirSeg) (p : ℕ) → total (seg_len line) asked ≤ p → held_at line z ways t asked p ≡ false
+pub held_behind : (line : Line) (z : ℕ) (ways : List Controlled) (t : ℕ) (asked : List DirSeg) (p : ℕ) → total (seg_len line) asked ≤ p → held_at line z ways t asked p ≡ false
 unfolding on_step total
 held_behind line z ways t [] p h = refl
 held_behind line z ways t (st ∷ asked) p h =
@@ -147,7 +147,7 @@ module _ (here rest all : ℕ → Bool) (len n from q : ℕ) (h : (p : ℕ) → 
         (λ x. let le : len ≤ k = grind (arith, nat_tests) in rw (b k le) (j.before (k - len) (omega arith) (omega arith)));
   }
 
-pub first_held_is : (line : Line) (z : ℕ) (ways : List ZoneTrain) (t : ℕ) (asked : List DirSeg) (from : ℕ)
+pub first_held_is : (line : Line) (z : ℕ) (ways : List Controlled) (t : ℕ) (asked : List DirSeg) (from : ℕ)
     → IsNearest (held_at line z ways t asked) (total (seg_len line) asked) from (first_held line z ways t asked from)
 unfolding first_held total
 first_held_is line z ways t [] from = record { within = omega arith; after = λ h. absurd (omega arith); there = λ h. absurd (omega arith); before = λ k f h. absurd (omega arith) }
@@ -174,14 +174,14 @@ none_below zero = refl
 none_below (suc n) = none_below n
 
 -- a way has a cell of the zone's own segment where the walk finds one
-pub way_on_own : (line : Line) (z s : ℕ) (x : ZoneTrain) → zone_of line s ≡ z
+pub way_on_own : (line : Line) (z s : ℕ) (x : Controlled) → zone_of line s ≡ z
     → nat_lt (near_way (seg_len line) x (record { seg = record { 0 = s }; dir = Up }) 0) (seg_len line s) ≡ way_on line z s x
 way_on_own line z s x e =
     let y : nat_eq (zone_of line s) z ≡ true = grind (arith, nat_tests) in
     rw y (sym (some_nearest _ _ _ (way_is (layout line) x (record { seg = record { 0 = s }; dir = Up }) 0)))
 
 -- and none of a segment of another zone's
-pub way_on_else : (line : Line) (z s : ℕ) (x : ZoneTrain) → (zone_of line s ≡ z → ⊥) → nat_eq (zone_of line s) z ≡ way_on line z s x
+pub way_on_else : (line : Line) (z s : ℕ) (x : Controlled) → (zone_of line s ≡ z → ⊥) → nat_eq (zone_of line s) z ≡ way_on line z s x
 way_on_else line z s x e =
     let n : nat_eq (zone_of line s) z ≡ false = grind (arith, nat_tests) in
     rw n (sym (none_below (seg_len line s)))

@@ -8,14 +8,15 @@ use Rattle.track_points.specs.Points.{Lengths, total, end_place, steps_to, offse
 use Rattle.definitions.specs.declared.item.Item.{Item}
 use Rattle.definitions.specs.Track.{follows, joined, last_step}
 use Rattle.definitions.specs.Limit.{asked_way}
-use Rattle.definitions.specs.Ways.{PlainWay}
 use Rattle.way_path.specs.declared.way.WayFault.{WayFault}
 use Rattle.way_path.specs.declared.way.WayFault.TheVariants.{NotJoined, Repeated, OutOfRange, Throats, Full}
-use Rattle.way_path.specs.Ways.{Extends, ended_at}
+use Rattle.definitions.specs.Steps.{path_to}
+use Rattle.way_path.specs.Ways.{PlacedWay, Extends, EndsWithPath, ended_at}
 use Rattle.way_laws.proofs.Joined.{once_front}
 use Rattle.way_laws.proofs.Cuts.{cut_more, offset_more}
 use Rattle.way_path.proofs.OnSteps.{once_append}
-use Rattle.zone_reach.specs.Reach.{with_steps, longer_way}
+use Rattle.plain_state.specs.Zone.{longer_way}
+use Rattle.zone_reach.specs.Reach.{with_steps}
 
 -- up to a place of the first steps, all steps come to the same
 pub steps_first : (len : Lengths) (asked : List DirSeg) (n p : ℕ) → p ≤ total len (take n asked) → 0 < n → steps_to len (take n asked) p ≡ steps_to len asked p
@@ -39,10 +40,10 @@ last_behind (x ∷ []) st = refl
 last_behind (x ∷ y ∷ steps) st = last_behind (y ∷ steps) st
 
 -- with 24 steps, and with no more of them, it stays
-pub stays_full : (way : PlainWay) (more : List DirSeg) → length way.path.steps.items ≡ 24 → way ≡ with_steps way (take 24 (way.path.steps.items ++ more))
+pub stays_full : (way : PlacedWay) (more : List DirSeg) → length way.path.steps.items ≡ 24 → way ≡ with_steps way (take 24 (way.path.steps.items ++ more))
 stays_full way more h = let e = rw h at (take-append_seam way.path.steps.items more) in rw e refl
 
-pub stays_bare : (way : PlainWay) (more : List DirSeg) → length way.path.steps.items ≤ 24 → length more < 1 → way ≡ with_steps way (take 24 (way.path.steps.items ++ more))
+pub stays_bare : (way : PlacedWay) (more : List DirSeg) → length way.path.steps.items ≤ 24 → length more < 1 → way ≡ with_steps way (take 24 (way.path.steps.items ++ more))
 stays_bare way [] l h = rw (append-nil way.path.steps.items, take_all 24 way.path.steps.items l) refl
 stays_bare way (x ∷ more) l h = absurd (omega arith)
 
@@ -60,12 +61,12 @@ once_step steps more rest st e h =
     let f = rw (once_append steps st) at (once_front (steps ++ st ∷ []) rest u) in
     (grind arith, u)
 
-pub one_more : (old mid new : PlainWay) (st : DirSeg) (more rest : List DirSeg) → more ≡ st ∷ rest → mid ≡ with_steps old (old.path.steps.items ++ st ∷ [])
+pub one_more : (old mid new : PlacedWay) (st : DirSeg) (more rest : List DirSeg) → more ≡ st ∷ rest → mid ≡ with_steps old (old.path.steps.items ++ st ∷ [])
     → new ≡ with_steps mid (take 24 (mid.path.steps.items ++ rest)) → new ≡ with_steps old (take 24 (old.path.steps.items ++ more))
 one_more old mid new st more rest e m n = n ∙ rw (m, e, append_assoc old.path.steps.items (st ∷ []) rest) refl
 
 -- where nothing is against a further step, it is added
-pub extends_ok : (line : List Item) (old new : PlainWay) (st : DirSeg) (r : Result ⊤ WayFault) → Extends line old st r new → length old.path.steps.items < 24
+pub extends_ok : (line : List Item) (old new : PlacedWay) (st : DirSeg) (r : Result ⊤ WayFault) → Extends line old st r new → length old.path.steps.items < 24
     → follows line (last_step old.path.steps.items) st ≡ true → visits old.path.steps.items st.seg.0 ≡ false
     → (r ≡ Ok tt) × (new ≡ with_steps old (old.path.steps.items ++ st ∷ []))
 extends_ok line old new st (Ok tt) x l f v = (refl, x.3)
@@ -75,7 +76,7 @@ extends_ok line old new st (Err (Repeated i)) x l f v = let a = x.2 in absurd (g
 extends_ok line old new st (Err OutOfRange) x l f v = absurd x
 extends_ok line old new st (Err Throats) x l f v = absurd x
 
-pub goes_on : (line : List Item) (old mid : PlainWay) (st : DirSeg) (more rest : List DirSeg) → more ≡ st ∷ rest → mid ≡ with_steps old (old.path.steps.items ++ st ∷ [])
+pub goes_on : (line : List Item) (old mid : PlacedWay) (st : DirSeg) (more rest : List DirSeg) → more ≡ st ∷ rest → mid ≡ with_steps old (old.path.steps.items ++ st ∷ [])
     → old.mark + 24 < 2 ^ 32 → joined line (last_step old.path.steps.items) more ≡ true → no_segment_twice (old.path.steps.items ++ more) ≡ true
     → (mid.mark + 24 < 2 ^ 32) × (joined line (last_step mid.path.steps.items) rest ≡ true) × (no_segment_twice (mid.path.steps.items ++ rest) ≡ true)
 goes_on line old mid st more rest e m k j o = rw m (
@@ -85,9 +86,18 @@ goes_on line old mid st more rest e m k j o = rw m (
 )
 
 -- a way lengthened by its first 24 steps ends as by all of them
-pub longer_is : (len : Lengths) (way new : PlainWay) (asked : List DirSeg) (d place : ℕ) → place ≡ end_place len way.path + d
+pub longer_is : (len : Lengths) (way new : PlacedWay) (asked : List DirSeg) (d place : ℕ) → place ≡ end_place len way.path + d
     → new ≡ ended_at len (with_steps way (take 24 (asked_way way.path.steps.items asked))) place
-    → end_place len way.path + d ≤ total len (take 24 (asked_way way.path.steps.items asked)) → new ≡ longer_way len asked d way
-longer_is len way new asked d place p n w =
+    → end_place len way.path + d ≤ total len (take 24 (asked_way way.path.steps.items asked)) → EndsWithPath len new → new ≡ longer_way len asked d way
+longer_is len way new asked d place p n w ends =
     let whole = asked_way way.path.steps.items asked in
-    n ∙ rw (p, steps_first len whole 24 (end_place len way.path + d) w (omega arith), offset_first len whole 24 (end_place len way.path + d) w (omega arith)) refl
+    let to = end_place len way.path + d in
+    let is : new ≡ by_end to = n ∙ rw (p, steps_first len whole 24 to w (omega arith), offset_first len whole 24 to w (omega arith)) refl in
+    is ∙ ap by_end (rw is at ends)
+  where
+    by_end : ℕ → PlacedWay
+    by_end end = record {
+      mark = way.mark;
+      path = path_to len way.path.from (asked_way way.path.steps.items asked) (end_place len way.path + d);
+      end = end;
+    }

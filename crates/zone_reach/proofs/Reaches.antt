@@ -7,7 +7,7 @@ use Rattle.track_points.specs.declared.path.Path.{Path}
 use Rattle.track_points.specs.Points.{Lengths, total, place_of_last, end_place}
 use Rattle.definitions.specs.Track.{Line, seg_len, layout, last_step}
 use Rattle.definitions.specs.Limit.{Ask, reach_on, distance_on, obstructed, first_standing, least_standing, asked_way, further}
-use Rattle.plain_state.specs.ZoneTrain.{ZoneTrain}
+use Rattle.plain_state.specs.declared.Controlled.{Controlled}
 use Rattle.plain_state.specs.Zone.{barring_plain}
 use Rattle.zone_reach.specs.declared.reach.Stop.{Stop}
 use Rattle.zone_reach.specs.Reach.{stop_on, stop_reach, path_fits, ReachFits}
@@ -30,7 +30,7 @@ stop_within len asked limit to h s l =
     (λ b. let le : length asked ≤ 24 = grind (arith, nat_tests) in let e : take 24 asked ≡ asked = grind (arith, common_steps) in rw e refl)
     (λ a. let w = last_place len asked to s (grind (arith, nat_tests)) in omega arith)
 
-module _ (line : Line) (z : ℕ) (ways : List ZoneTrain) (t : ℕ) (asked : List DirSeg) (limit to : ℕ) where
+module _ (line : Line) (z : ℕ) (ways : List Controlled) (t : ℕ) (asked : List DirSeg) (limit to : ℕ) where
   abbrev pub held_place : ℕ
   held_place = first_held line z ways t asked limit
 

@@ -5,7 +5,7 @@ use Rattle.track_points.specs.declared.ids.Dir.TheVariants.{Up, Down}
 use Rattle.track_points.specs.declared.ids.DirSeg.{DirSeg}
 use Rattle.track_points.specs.Points.{Lengths, end_place}
 use Rattle.definitions.specs.Track.{Line, seg_len, zone_of}
-use Rattle.plain_state.specs.ZoneTrain.{ZoneTrain}
+use Rattle.plain_state.specs.declared.Controlled.{Controlled}
 use Rattle.zone_reach.specs.declared.held.Cells.{Cells}
 
 -- the cells that a step passes from one offset to below another
@@ -31,20 +31,20 @@ unfoldable pub near_steps : Lengths → List DirSeg → ℕ → ℕ → DirSeg �
 near_steps len [] lo hi st from = len st.seg.0
 near_steps len (w ∷ steps) lo hi st from = min (near_step len w lo hi st from) (near_steps len steps (lo - len w.seg.0) (hi - len w.seg.0) st from)
 
-abbrev pub near_way : Lengths → ZoneTrain → DirSeg → ℕ → ℕ
+abbrev pub near_way : Lengths → Controlled → DirSeg → ℕ → ℕ
 near_way len x st from = near_steps len x.way.path.steps.items x.way.path.from (end_place len x.way.path) st from
 
 -- the same of the ways of the other trains
-unfoldable pub near_ways : Lengths → ℕ → List ZoneTrain → DirSeg → ℕ → ℕ
+unfoldable pub near_ways : Lengths → ℕ → List Controlled → DirSeg → ℕ → ℕ
 near_ways len t [] st from = len st.seg.0
 near_ways len t (x ∷ ways) st from = if nat_eq x.id.0 t then near_ways len t ways st from else min (near_way len x st from) (near_ways len t ways st from)
 
 -- the same of the zone's own cells
-abbrev pub near_on : Line → ℕ → List ZoneTrain → ℕ → DirSeg → ℕ → ℕ
+abbrev pub near_on : Line → ℕ → List Controlled → ℕ → DirSeg → ℕ → ℕ
 near_on line z ways t st from = if nat_eq (zone_of line st.seg.0) z then near_ways (seg_len line) t ways st from else seg_len line st.seg.0
 
 -- the first place of some steps, from one on, that is held for another train; their end where there is none
-unfoldable pub first_held : Line → ℕ → List ZoneTrain → ℕ → List DirSeg → ℕ → ℕ
+unfoldable pub first_held : Line → ℕ → List Controlled → ℕ → List DirSeg → ℕ → ℕ
 first_held line z ways t [] from = 0
 first_held line z ways t (st ∷ asked) from =
     if nat_lt (near_on line z ways t st from) (seg_len line st.seg.0)

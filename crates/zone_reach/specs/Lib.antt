@@ -1,3 +1,2 @@
-pub mod Train
 pub mod Held
 pub mod Reach

@@ -6,8 +6,7 @@ use Rattle.track_points.specs.Points.{Lengths, total, place_of_last, end_place}
 use Rattle.definitions.specs.Track.{Line, seg_len, last_step}
 use Rattle.definitions.specs.declared.outcome.Obstacle.TheVariants.{AskEnds, TrackEnds, Held, PathFull}
 use Rattle.definitions.specs.Limit as limits
-use Rattle.definitions.specs.Steps.{path_to}
-use Rattle.definitions.specs.Ways.{PlainWay}
+use Rattle.way_path.specs.Ways.{PlacedWay}
 use Rattle.zone_reach.specs.declared.reach.Stop.{Stop}
 use Rattle.zone_reach.specs.declared.reach.Reach.{Reach}
 
@@ -45,17 +44,9 @@ pub record ReachFits (line : Line) (path : Path) (asked : List DirSeg) (distance
   pub most : 0 < distance → end_place (seg_len line) path + distance ≤ 240000000
 
 -- a way with other steps
-abbrev pub with_steps : PlainWay → List DirSeg → PlainWay
+abbrev pub with_steps : PlacedWay → List DirSeg → PlacedWay
 with_steps way steps = record {
   mark = way.mark;
   path = record { steps = record { items = steps }; from = way.path.from; to = way.path.to };
   end = way.end;
-}
-
--- a way lengthened up to a distance from its end
-abbrev pub longer_way : Lengths → List DirSeg → ℕ → PlainWay → PlainWay
-longer_way len asked distance way = record {
-  mark = way.mark;
-  path = path_to len way.path.from (limits.asked_way way.path.steps.items asked) (end_place len way.path + distance);
-  end = end_place len way.path + distance;
 }

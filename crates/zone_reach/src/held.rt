@@ -1,14 +1,13 @@
 //! What is held for other trains: the first such place on an asked way, and who holds a segment.
-ghost use Rattle.std.specs.Prelude.{◌≡◌, ◌≤◌, ◌*◌, length, map, min};
+ghost use Rattle.std.specs.Prelude.{◌≡◌, ◌≤◌, ◌*◌, length, min};
 ghost use Rattle.definitions.specs.Track.{seg_len};
 ghost use Rattle.definitions.specs.Authority.{less_of};
 ghost use Rattle.plain_state.specs.Zone.{way_on, holder_plain};
-ghost use Rattle.zone_reach.specs.Train.{plain_train};
 ghost use Rattle.zone_reach.specs.Held.{cells_on, first_from, first_in, near_step, near_steps, near_way, near_ways, near_on, first_held};
 
 use crate::steps::place_of_last;
-use crate::train::Controlled;
 use line_map::Line;
+use plain_state::Controlled;
 use track_points::{Dir, DirSeg, SegId, TrainId};
 use way_path::on_steps::{length_of, visits, zone_of};
 
@@ -93,7 +92,7 @@ fn near_steps(line: &Line, steps: &[DirSeg], lo: u64, hi: u64, step: DirSeg, fro
 
 /// The first offset of a step, from one on, whose cell lies in a way.
 fn near_way(line: &Line, other: &Controlled, step: DirSeg, from: u64) -> u64
-    ensures { result ≡ near_way (seg_len line.now) (plain_train other.now) step from }
+    ensures { result ≡ near_way (seg_len line.now) other.now step from }
 {
     let path = other.way.path();
     let steps = path.steps.as_slice();
@@ -106,7 +105,7 @@ fn near_way(line: &Line, other: &Controlled, step: DirSeg, from: u64) -> u64
 #[tactic(auto, using(crate::proofs::Away::way_away))]
 fn or_near_way(line: &Line, other: &Controlled, step: DirSeg, from: u64, nearest: u64) -> u64
     requires { nearest ≤ seg_len line.now step.seg.0 }
-    ensures { result ≡ min (near_way (seg_len line.now) (plain_train other.now) step from) nearest }
+    ensures { result ≡ min (near_way (seg_len line.now) other.now step from) nearest }
 {
     if visits(other.way.path().steps.as_slice(), step.seg) {
         near_way(line, other, step, from).min(nearest)
@@ -118,7 +117,7 @@ fn or_near_way(line: &Line, other: &Controlled, step: DirSeg, from: u64, nearest
 /// The first offset of a step, from one on, whose cell lies in the way of another train than this one.
 #[tactic(auto, using(crate::proofs::Away::ways_within), unfolding(crate::specs::Held::near_ways))]
 fn near_ways(line: &Line, trains: &[Controlled], train: TrainId, step: DirSeg, from: u64) -> u64
-    ensures { result ≡ near_ways (seg_len line.now) train.0 (map plain_train trains.now) step from }
+    ensures { result ≡ near_ways (seg_len line.now) train.0 trains.now step from }
 {
     match trains {
         [] => length_of(line, step.seg) as u64,
@@ -142,7 +141,7 @@ fn near_on(
     step: DirSeg,
     from: u64,
 ) -> u64
-    ensures { result ≡ near_on line.now zone (map plain_train trains.now) train.0 step from }
+    ensures { result ≡ near_on line.now zone trains.now train.0 step from }
 {
     if zone_of(line, step.seg) == zone {
         near_ways(line, trains, train, step, from)
@@ -163,7 +162,7 @@ pub fn first_held(
     from: u64,
 ) -> u64
     requires { length asked.now ≤ 48 }
-    ensures held { result ≡ first_held line.now zone (map plain_train trains.now) train.0 asked.now from }
+    ensures held { result ≡ first_held line.now zone trains.now train.0 asked.now from }
     ensures most { result ≤ 10000000 * length asked.now }
 {
     match asked {
@@ -182,7 +181,7 @@ pub fn first_held(
 
 /// Whether a way that visits a segment has a cell of it, which is of the zone's own.
 fn visited_on(line: &Line, zone: u8, other: &Controlled, s: SegId) -> bool
-    ensures { result ≡ way_on line.now zone s.0 (plain_train other.now) }
+    ensures { result ≡ way_on line.now zone s.0 other.now }
 {
     let step = DirSeg {
         seg: s,
@@ -194,7 +193,7 @@ fn visited_on(line: &Line, zone: u8, other: &Controlled, s: SegId) -> bool
 /// Whether a way has a cell of a segment of the zone's own.
 #[tactic(auto, using(crate::proofs::Away::on_away))]
 fn way_on(line: &Line, zone: u8, other: &Controlled, s: SegId) -> bool
-    ensures { result ≡ way_on line.now zone s.0 (plain_train other.now) }
+    ensures { result ≡ way_on line.now zone s.0 other.now }
 {
     if visits(other.way.path().steps.as_slice(), s) {
         visited_on(line, zone, other, s)
@@ -215,7 +214,7 @@ fn lesser(one: u16, other: Option<u16>) -> u16
 /// The least train for which a cell of a segment of the zone's own is held.
 #[tactic(auto, unfolding(plain_state::specs::Zone::least_way))]
 pub fn holder(line: &Line, zone: u8, trains: &[Controlled], s: SegId) -> Option<u16>
-    ensures { result ≡ holder_plain line.now zone (map plain_train trains.now) s.0 }
+    ensures { result ≡ holder_plain line.now zone trains.now s.0 }
 {
     match trains {
         [] => None,

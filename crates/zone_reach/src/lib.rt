@@ -7,7 +7,5 @@
 pub mod held;
 pub mod reach;
 pub mod steps;
-pub mod train;
 
 pub use reach::Reach;
-pub use train::Controlled;

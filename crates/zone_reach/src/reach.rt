@@ -1,17 +1,16 @@
 //! How far an ask reaches.
-ghost use Rattle.std.specs.Prelude.{◌≡◌, ◌≤◌, ◌<◌, ◌+◌, length, map, take, Some, true, max};
+ghost use Rattle.std.specs.Prelude.{◌≡◌, ◌≤◌, ◌<◌, ◌+◌, length, take, Some, true, max};
 ghost use Rattle.track_points.specs.Points.{total, place_of_last};
 ghost use Rattle.definitions.specs.Track.{seg_len};
 ghost use Rattle.definitions.specs.Limit.{reach_from, barred};
 ghost use Rattle.plain_state.specs.Zone.{barring_plain};
-ghost use Rattle.zone_reach.specs.Train.{plain_train};
 ghost use Rattle.zone_reach.specs.Reach.{nearer, stop_on, stop_reach, reach_value, path_fits, ReachFits};
 
 use crate::held::first_held;
 use crate::steps::{asked_way, continues, place_of_last};
-use crate::train::Controlled;
 use definitions::outcome::Obstacle;
 use line_map::Line;
+use plain_state::Controlled;
 use track_points::{DirSeg, Path, TrainId};
 use way_path::on_steps::{last_step, length_of, total};
 
@@ -135,7 +134,7 @@ pub fn reach_from(
 ) -> Reach
     requires few { length asked.now ≤ 24 }
     requires fits { path_fits (seg_len line.now) path.now ≡ true }
-    ensures reach { reach_value result ≡ reach_from line.now ready silent (Some path.now) asked.now to (barring_plain line.now zone (map plain_train trains.now) train.0) }
+    ensures reach { reach_value result ≡ reach_from line.now ready silent (Some path.now) asked.now to (barring_plain line.now zone trains.now train.0) }
     ensures fits { ReachFits line.now path.now asked.now result.distance }
 {
     let steps = path.steps.as_slice();

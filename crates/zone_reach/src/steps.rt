@@ -3,7 +3,8 @@ ghost use Rattle.std.specs.Prelude.{◌≡◌, ◌≤◌, ◌<◌, ◌+◌, ◌*
 ghost use Rattle.track_points.specs.Points.{step_eq, place_of_last, visits, no_segment_twice};
 ghost use Rattle.definitions.specs.Track.{seg_len, joined, last_step};
 ghost use Rattle.way_path.specs.Ways.{OnLine, EndsWithPath};
-ghost use Rattle.zone_reach.specs.Reach.{with_steps, longer_way, ReachFits};
+ghost use Rattle.plain_state.specs.Zone.{longer_way};
+ghost use Rattle.zone_reach.specs.Reach.{with_steps, ReachFits};
 ghost use Rattle.definitions.specs.Limit.{beyond, or_all, further, asked_way, continues};
 
 use arrayvec::ArrayVec;
@@ -139,6 +140,7 @@ pub fn lengthen_way(line: &Line, way: &mut Way, asked: &[DirSeg], distance: u32)
     requires some { 0 < distance }
     requires reaches { ReachFits line.now way.old.path asked.now distance }
     ensures way { way.new ≡ longer_way (seg_len line.now) asked.now distance way.old }
+    ensures end { way.new.end ≡ way.old.end + distance }
     ensures on_line { OnLine line.now way.new }
     ensures ends { EndsWithPath (seg_len line.now) way.new }
 {

@@ -11,11 +11,10 @@ use Rattle.definitions.specs.Track.{Line, seg_len, silent_after}
 use Rattle.definitions.specs.Ways.{PlainWay}
 use Rattle.definitions.specs.Limit.{Reach}
 use Rattle.definitions.specs.Steps.{Effect, zone_entry, zone_ask, enter_or_held}
-use Rattle.plain_state.specs.ZoneTrain.{ZoneTrain}
+use Rattle.plain_state.specs.declared.Controlled.{Controlled}
+use Rattle.plain_state.specs.Relation.{Distinct}
 use Rattle.plain_state.specs.Zone.{PlainZone, find_way, full, holder_plain, reach_plain, last_found, way_found, uses_mark, place_found, again_found, zone_answer, zone_heeds, zone_gives, zone_take_effect, trains_stepped, clock_after}
-use Rattle.zone_reach.specs.declared.train.Controlled.{Controlled}
-use Rattle.zone_reach.specs.Train.{plain_train}
-use Rattle.zone_state.specs.Zone.{Distinct, alarms_of}
+use Rattle.zone_state.specs.Zone.{alarms_of}
 use Rattle.zone_state.proofs.Alarms.{Follows, grown_follows, after_follows}
 
 -- what a message comes to has at most one line
@@ -36,15 +35,15 @@ ask_one : (len : Lengths) (z : ℕ) (t : TrainId) (last : ℕ) (way : Option Pla
 ask_one len z t last None asked reach = omega arith
 ask_one len z t last (Some way) asked reach = by_test (nat_eq reach.distance 0) (λ y. rw y (omega arith)) (λ n. rw n (omega arith))
 
-place_one : (len : Lengths) (z time mark : ℕ) (offset : ℤ) (integrity : Bool) (x : Option ZoneTrain) → AtMostOne (place_found len z time mark offset integrity x)
+place_one : (len : Lengths) (z time mark : ℕ) (offset : ℤ) (integrity : Bool) (x : Option Controlled) → AtMostOne (place_found len z time mark offset integrity x)
 place_one len z time mark offset integrity None = omega arith
 place_one len z time mark offset integrity (Some x) = omega arith
 
-again_one : (t : TrainId) (x : Option ZoneTrain) → AtMostOne (again_found t x)
+again_one : (t : TrainId) (x : Option Controlled) → AtMostOne (again_found t x)
 again_one t None = omega arith
 again_one t (Some x) = by_test (nat_lt x.answered x.last) (λ y. rw y (omega arith)) (λ n. rw n (omega arith))
 
-answer_one : (line : Line) (z clock : ℕ) (ways : List ZoneTrain) (m : Msg) → AtMostOne (zone_answer line z clock ways m)
+answer_one : (line : Line) (z clock : ℕ) (ways : List Controlled) (m : Msg) → AtMostOne (zone_answer line z clock ways m)
 answer_one line z clock ways (msg.EntryAsk t time long error speed equipped step) =
     entry_one z (is_some (find_way t.0 ways)) (full ways) (seg_len line step.seg.0) t long step (holder_plain line z ways step.seg.0)
 answer_one line z clock ways (msg.Ask t time steps to) =
@@ -54,8 +53,7 @@ answer_one line z clock ways (msg.Report t time mark offset integrity) =
     (λ y. rw y (place_one (seg_len line) z time mark offset integrity (find_way t.0 ways)))
     (λ n. rw n (omega arith))
 answer_one line z clock ways (msg.Time time t) = again_one t (find_way t.0 ways)
-answer_one line z clock ways (msg.Answer t time number taken) = omega arith
-answer_one line z clock ways (msg.Auth t number mark path) = omega arith
+answer_one line z clock ways _ = omega arith
 
 pub gives_one : (line : Line) (z : PlainZone) (from : ℕ) (m : Msg) → AtMostOne (zone_gives line z from m)
 gives_one line z from m =
@@ -71,12 +69,8 @@ stepped_follows line z from m d few =
     (λ n. rw n (grown_follows line z.id z.clock (clock_after z.clock m) z.trains d few))
 
 -- the lines of the message, and the alarms behind them
-pub gave : (line : Line) (z : PlainZone) (from : ℕ) (m : Msg) (given after : Effect) (new : List ZoneTrain) → Distinct z.trains → length z.trains ≤ 256
+pub gave : (line : Line) (z : PlainZone) (from : ℕ) (m : Msg) (given after : Effect) (new : List Controlled) → Distinct z.trains → length z.trains ≤ 256
     → given ≡ zone_gives line z from m → new ≡ trains_stepped line z from m
     → after ≡ record { issued = given.issued; lines = given.lines ++ alarms_of (silent_after line) z.id z.clock (clock_after z.clock m) new }
     → after ≡ zone_take_effect line z from m
 gave line z from m given after new d few g n a = a ∙ rw (g, n, (stepped_follows line z from m d few).alarms) refl
-
-pub count_plain : (xs : List Controlled) → length (map plain_train xs) ≡ length xs
-count_plain [] = refl
-count_plain (x ∷ xs) = ap suc (count_plain xs)

@@ -11,33 +11,34 @@ use Rattle.definitions.specs.declared.outcome.Outcome.{Outcome}
 use Rattle.definitions.specs.Track.{Line, seg_len, silent_after}
 use Rattle.definitions.specs.Fronts.{silent_by}
 use Rattle.definitions.specs.Control.{message_time}
-use Rattle.plain_state.specs.ZoneTrain.{ZoneTrain}
+use Rattle.plain_state.specs.declared.Controlled.{Controlled}
 use Rattle.plain_state.specs.Zone.{find_way, change_way, placed_way, entered_or, entered_way, full, holder_plain, reach_plain, uses_mark, ways_after, grown_train, plain_alarms, is_alarmed, report_or, alarm_of, lengthened, answer, reported_by, fresh_train}
-use Rattle.zone_state.specs.Zone.{Distinct, falls_silent, alarms_of}
+use Rattle.plain_state.specs.Relation.{Distinct}
+use Rattle.zone_state.specs.Zone.{falls_silent, alarms_of}
 
-no_some : (x : ZoneTrain) → Some x ≡ None → ⊥
+no_some : (x : Controlled) → Some x ≡ None → ⊥
 no_some x h = cc
 
-none_is : (o : Option ZoneTrain) → is_some o ≡ false → o ≡ None
+none_is : (o : Option Controlled) → is_some o ≡ false → o ≡ None
 none_is None h = refl
 none_is (Some x) h = absurd (let z : true ≡ false = h in cc)
 
 -- a change that leaves each train its number
-abbrev pub KeepsId : (ZoneTrain → ZoneTrain) → Type 0
-KeepsId f = (x : ZoneTrain) → (f x).id ≡ x.id
+abbrev pub KeepsId : (Controlled → Controlled) → Type 0
+KeepsId f = (x : Controlled) → (f x).id ≡ x.id
 
-find_rest : (u : ℕ) (x : ZoneTrain) (xs : List ZoneTrain) → find_way u (x ∷ xs) ≡ None → (nat_eq x.id.0 u ≡ false) × (find_way u xs ≡ None)
+find_rest : (u : ℕ) (x : Controlled) (xs : List Controlled) → find_way u (x ∷ xs) ≡ None → (nat_eq x.id.0 u ≡ false) × (find_way u xs ≡ None)
 unfolding find_way
 find_rest u x xs h =
     by_test (nat_eq x.id.0 u)
     (λ y. absurd (no_some x (rw y at h)))
     (λ n. (n, rw n at h))
 
-find_none : (u : ℕ) (x : ZoneTrain) (xs : List ZoneTrain) → nat_eq x.id.0 u ≡ false → find_way u xs ≡ None → find_way u (x ∷ xs) ≡ None
+find_none : (u : ℕ) (x : Controlled) (xs : List Controlled) → nat_eq x.id.0 u ≡ false → find_way u xs ≡ None → find_way u (x ∷ xs) ≡ None
 unfolding find_way
 find_none u x xs n h = rw n h
 
-find_changed : (t u : ℕ) (f : ZoneTrain → ZoneTrain) (xs : List ZoneTrain) → KeepsId f → find_way u xs ≡ None → find_way u (change_way t f xs) ≡ None
+find_changed : (t u : ℕ) (f : Controlled → Controlled) (xs : List Controlled) → KeepsId f → find_way u xs ≡ None → find_way u (change_way t f xs) ≡ None
 unfolding change_way
 find_changed t u f [] k h = h
 find_changed t u f (x ∷ xs) k h =
@@ -46,7 +47,7 @@ find_changed t u f (x ∷ xs) k h =
     (λ y. rw y (find_none u (f x) xs (ap (λ (i : TrainId). nat_eq i.0 u) (k x) ∙ r.0) r.1))
     (λ n. rw n (find_none u x (change_way t f xs) r.0 (find_changed t u f xs k r.1)))
 
-pub distinct_changed : (t : ℕ) (f : ZoneTrain → ZoneTrain) (xs : List ZoneTrain) → KeepsId f → Distinct xs → Distinct (change_way t f xs)
+pub distinct_changed : (t : ℕ) (f : Controlled → Controlled) (xs : List Controlled) → KeepsId f → Distinct xs → Distinct (change_way t f xs)
 unfolding change_way Distinct
 distinct_changed t f [] k d = tt
 distinct_changed t f (x ∷ xs) k d =
@@ -54,18 +55,18 @@ distinct_changed t f (x ∷ xs) k d =
     (λ y. rw y (ap (λ (i : TrainId). find_way i.0 xs) (k x) ∙ d.0, d.1))
     (λ n. rw n (find_changed t x.id.0 f xs k d.0, distinct_changed t f xs k d.1))
 
-find_mapped : (u : ℕ) (f : ZoneTrain → ZoneTrain) (xs : List ZoneTrain) → KeepsId f → find_way u xs ≡ None → find_way u (map f xs) ≡ None
+find_mapped : (u : ℕ) (f : Controlled → Controlled) (xs : List Controlled) → KeepsId f → find_way u xs ≡ None → find_way u (map f xs) ≡ None
 find_mapped u f [] k h = h
 find_mapped u f (x ∷ xs) k h =
     let r = find_rest u x xs h in
     find_none u (f x) (map f xs) (ap (λ (i : TrainId). nat_eq i.0 u) (k x) ∙ r.0) (find_mapped u f xs k r.1)
 
-pub distinct_mapped : (f : ZoneTrain → ZoneTrain) (xs : List ZoneTrain) → KeepsId f → Distinct xs → Distinct (map f xs)
+pub distinct_mapped : (f : Controlled → Controlled) (xs : List Controlled) → KeepsId f → Distinct xs → Distinct (map f xs)
 unfolding Distinct
 distinct_mapped f [] k d = tt
 distinct_mapped f (x ∷ xs) k d = (ap (λ (i : TrainId). find_way i.0 (map f xs)) (k x) ∙ find_mapped x.id.0 f xs k d.0, distinct_mapped f xs k d.1)
 
-find_placed : (u : ℕ) (x : ZoneTrain) (xs : List ZoneTrain) → nat_eq x.id.0 u ≡ false → find_way u xs ≡ None → find_way u (placed_way x xs) ≡ None
+find_placed : (u : ℕ) (x : Controlled) (xs : List Controlled) → nat_eq x.id.0 u ≡ false → find_way u xs ≡ None → find_way u (placed_way x xs) ≡ None
 unfolding placed_way
 find_placed u x [] n h = find_none u x [] n h
 find_placed u x (y ∷ ys) n h =
@@ -74,7 +75,7 @@ find_placed u x (y ∷ ys) n h =
     (λ a. rw a (find_none u x (y ∷ ys) n h))
     (λ b. rw b (find_none u y (placed_way x ys) r.0 (find_placed u x ys n r.1)))
 
-pub distinct_placed : (x : ZoneTrain) (xs : List ZoneTrain) → find_way x.id.0 xs ≡ None → Distinct xs → Distinct (placed_way x xs)
+pub distinct_placed : (x : Controlled) (xs : List Controlled) → find_way x.id.0 xs ≡ None → Distinct xs → Distinct (placed_way x xs)
 unfolding placed_way Distinct
 distinct_placed x [] h d = (h, tt)
 distinct_placed x (y ∷ ys) h d =
@@ -86,11 +87,11 @@ distinct_placed x (y ∷ ys) h d =
     (λ b. rw b (find_placed y.id.0 x ys n d.0, distinct_placed x ys r.1 d.1))
 
 -- each of some trains is found by its number
-unfoldable pub AllFound : List ZoneTrain → List ZoneTrain → Type 0
+unfoldable pub AllFound : List Controlled → List Controlled → Type 0
 AllFound all [] = ⊤
 AllFound all (y ∷ ys) = (find_way y.id.0 all ≡ Some y) × AllFound all ys
 
-found_beyond : (x : ZoneTrain) (all ys : List ZoneTrain) → find_way x.id.0 all ≡ None → AllFound all ys → AllFound (x ∷ all) ys
+found_beyond : (x : Controlled) (all ys : List Controlled) → find_way x.id.0 all ≡ None → AllFound all ys → AllFound (x ∷ all) ys
 unfolding AllFound find_way
 found_beyond x all [] h f = tt
 found_beyond x all (y ∷ ys) h f =
@@ -98,14 +99,14 @@ found_beyond x all (y ∷ ys) h f =
     (λ e. absurd (let s : x.id.0 ≡ y.id.0 = grind (arith, nat_tests) in no_some y (sym f.0 ∙ ap (λ n. find_way n all) (sym s) ∙ h)))
     (λ n. (rw n f.0, found_beyond x all ys h f.1))
 
-pub all_found : (xs : List ZoneTrain) → Distinct xs → AllFound xs xs
+pub all_found : (xs : List Controlled) → Distinct xs → AllFound xs xs
 unfolding Distinct AllFound find_way
 all_found [] d = tt
 all_found (x ∷ xs) d =
     let e : nat_eq x.id.0 x.id.0 ≡ true = grind (arith, nat_tests) in
     (rw e refl, found_beyond x xs xs d.0 (all_found xs d.1))
 
-found_among : (all : List ZoneTrain) (x : ZoneTrain) (ys : List ZoneTrain) → AllFound all (placed_way x ys) → AllFound all ys
+found_among : (all : List Controlled) (x : Controlled) (ys : List Controlled) → AllFound all (placed_way x ys) → AllFound all ys
 unfolding AllFound placed_way
 found_among all x [] f = tt
 found_among all x (y ∷ ys) f =
@@ -114,20 +115,20 @@ found_among all x (y ∷ ys) f =
     (λ b. let g = rw b at f in (g.0, found_among all x ys g.1))
 
 -- the trains before and behind a message, one beside the other: whether each falls silent can be seen behind it
-unfoldable pub Beside : Line → ℕ → ℕ → List ZoneTrain → List ZoneTrain → Type 0
+unfoldable pub Beside : Line → ℕ → ℕ → List Controlled → List Controlled → Type 0
 Beside line before clock [] [] = ⊤
 Beside line before clock (x ∷ xs) (y ∷ ys) =
     (x.id ≡ y.id) × ((not (silent_by line x.report before) && silent_by line y.report clock) ≡ falls_silent (silent_after line) before clock y) × Beside line before clock xs ys
 Beside line before clock [] (y ∷ ys) = ⊥
 Beside line before clock (x ∷ xs) [] = ⊥
 
-alarmed_is : (line : Line) (before clock : ℕ) (all : List ZoneTrain) (x y : ZoneTrain) → x.id ≡ y.id → find_way y.id.0 all ≡ Some y
+alarmed_is : (line : Line) (before clock : ℕ) (all : List Controlled) (x y : Controlled) → x.id ≡ y.id → find_way y.id.0 all ≡ Some y
     → is_alarmed line before clock all x ≡ (not (silent_by line x.report before) && silent_by line y.report clock)
 alarmed_is line before clock all x y e f =
     let r : report_or (find_way x.id.0 all) ≡ y.report = ap (λ (i : TrainId). report_or (find_way i.0 all)) e ∙ ap report_or f in
     rw r refl
 
-pub alarms_beside : (line : Line) (z before clock : ℕ) (all xs ys : List ZoneTrain) → Beside line before clock xs ys → AllFound all ys
+pub alarms_beside : (line : Line) (z before clock : ℕ) (all xs ys : List Controlled) → Beside line before clock xs ys → AllFound all ys
     → plain_alarms line z before clock xs all ≡ alarms_of (silent_after line) z before clock ys
 unfolding Beside AllFound
 alarms_beside line z before clock all [] [] b f = refl
@@ -141,13 +142,13 @@ alarms_beside line z before clock all (x ∷ xs) (y ∷ ys) b f =
     (λ n. let q = a ∙ n in rw (q, n) i)
 
 -- growth changes no report
-pub beside_grown : (line : Line) (before clock : ℕ) (xs : List ZoneTrain) → Beside line before clock xs (map (grown_train clock) xs)
+pub beside_grown : (line : Line) (before clock : ℕ) (xs : List Controlled) → Beside line before clock xs (map (grown_train clock) xs)
 unfolding Beside
 beside_grown line before clock [] = tt
 beside_grown line before clock (x ∷ xs) = (refl, refl, beside_grown line before clock xs)
 
-pub beside_changed : (line : Line) (before clock t : ℕ) (f : ZoneTrain → ZoneTrain) (xs : List ZoneTrain) → KeepsId f
-    → ((x : ZoneTrain) → (not (silent_by line x.report before) && silent_by line (f x).report clock) ≡ falls_silent (silent_after line) before clock (f x))
+pub beside_changed : (line : Line) (before clock t : ℕ) (f : Controlled → Controlled) (xs : List Controlled) → KeepsId f
+    → ((x : Controlled) → (not (silent_by line x.report before) && silent_by line (f x).report clock) ≡ falls_silent (silent_after line) before clock (f x))
     → Beside line before clock xs (change_way t f (map (grown_train clock) xs))
 unfolding Beside change_way
 beside_changed line before clock t f [] k r = tt
@@ -162,7 +163,7 @@ pub reported_silent : (line : Line) (before time report : ℕ)
 reported_silent line before time report = grind (arith, nat_tests)
 
 -- a train that has just entered is not silent
-alarms_placed : (line : Line) (z before clock : ℕ) (x : ZoneTrain) (ys : List ZoneTrain) → falls_silent (silent_after line) before clock x ≡ false
+alarms_placed : (line : Line) (z before clock : ℕ) (x : Controlled) (ys : List Controlled) → falls_silent (silent_after line) before clock x ≡ false
     → alarms_of (silent_after line) z before clock ys ≡ alarms_of (silent_after line) z before clock (placed_way x ys)
 unfolding placed_way
 alarms_placed line z before clock x [] h = rw h refl
@@ -175,26 +176,26 @@ alarms_placed line z before clock x (y ∷ ys) h =
     (λ n. rw (b, n) i))
 
 -- what a change of a train's own comes to
-pub record Follows (line : Line) (z before clock : ℕ) (old new : List ZoneTrain) : Type 0 where
+pub record Follows (line : Line) (z before clock : ℕ) (old new : List Controlled) : Type 0 where
   pub distinct : Distinct new
   pub alarms : plain_alarms line z before clock old new ≡ alarms_of (silent_after line) z before clock new
   pub few : length new ≤ 256
 
-pub length_mapped : (f : ZoneTrain → ZoneTrain) (xs : List ZoneTrain) → length (map f xs) ≡ length xs
+pub length_mapped : (f : Controlled → Controlled) (xs : List Controlled) → length (map f xs) ≡ length xs
 length_mapped f [] = refl
 length_mapped f (x ∷ xs) = ap suc (length_mapped f xs)
 
-length_changed : (t : ℕ) (f : ZoneTrain → ZoneTrain) (xs : List ZoneTrain) → length (change_way t f xs) ≡ length xs
+length_changed : (t : ℕ) (f : Controlled → Controlled) (xs : List Controlled) → length (change_way t f xs) ≡ length xs
 unfolding change_way
 length_changed t f [] = refl
 length_changed t f (x ∷ xs) = by_test (nat_eq x.id.0 t) (λ y. rw y refl) (λ n. rw n (ap suc (length_changed t f xs)))
 
-length_placed : (x : ZoneTrain) (xs : List ZoneTrain) → length (placed_way x xs) ≡ suc (length xs)
+length_placed : (x : Controlled) (xs : List Controlled) → length (placed_way x xs) ≡ suc (length xs)
 unfolding placed_way
 length_placed x [] = refl
 length_placed x (y ∷ ys) = by_test (nat_lt x.id.0 y.id.0) (λ a. rw a refl) (λ b. rw b (ap suc (length_placed x ys)))
 
-module _ (line : Line) (z before clock : ℕ) (old : List ZoneTrain) (d : Distinct old) (few : length old ≤ 256) where
+module _ (line : Line) (z before clock : ℕ) (old : List Controlled) (d : Distinct old) (few : length old ≤ 256) where
   pub grown_follows : Follows line z before clock old (map (grown_train clock) old)
   grown_follows =
       let e = distinct_mapped (grown_train clock) old (λ x. refl) d in
@@ -204,8 +205,8 @@ module _ (line : Line) (z before clock : ℕ) (old : List ZoneTrain) (d : Distin
         few = let l = length_mapped (grown_train clock) old in omega arith;
       }
 
-  changed_follows : (t : ℕ) (f : ZoneTrain → ZoneTrain) → KeepsId f
-      → ((x : ZoneTrain) → (not (silent_by line x.report before) && silent_by line (f x).report clock) ≡ falls_silent (silent_after line) before clock (f x))
+  changed_follows : (t : ℕ) (f : Controlled → Controlled) → KeepsId f
+      → ((x : Controlled) → (not (silent_by line x.report before) && silent_by line (f x).report clock) ≡ falls_silent (silent_after line) before clock (f x))
       → Follows line z before clock old (change_way t f (map (grown_train clock) old))
   changed_follows t f k r =
       let e = distinct_changed t f (map (grown_train clock) old) k grown_follows.distinct in
@@ -215,7 +216,7 @@ module _ (line : Line) (z before clock : ℕ) (old : List ZoneTrain) (d : Distin
         few = let l = length_mapped (grown_train clock) old in let m = length_changed t f (map (grown_train clock) old) in omega arith;
       }
 
-  placed_follows : (x : ZoneTrain) → find_way x.id.0 (map (grown_train clock) old) ≡ None → x.report ≡ clock → length old < 256
+  placed_follows : (x : Controlled) → find_way x.id.0 (map (grown_train clock) old) ≡ None → x.report ≡ clock → length old < 256
       → Follows line z before clock old (placed_way x (map (grown_train clock) old))
   placed_follows x h r l =
       let ways = map (grown_train clock) old in
@@ -228,7 +229,7 @@ module _ (line : Line) (z before clock : ℕ) (old : List ZoneTrain) (d : Distin
         few = let a = length_mapped (grown_train clock) old in let m = length_placed x ways in omega arith;
       }
 
-  entered_follows : (holder : Option ℕ) (x : ZoneTrain) → find_way x.id.0 (map (grown_train clock) old) ≡ None → x.report ≡ clock → length old < 256
+  entered_follows : (holder : Option ℕ) (x : Controlled) → find_way x.id.0 (map (grown_train clock) old) ≡ None → x.report ≡ clock → length old < 256
       → Follows line z before clock old (entered_or holder x (map (grown_train clock) old))
   entered_follows (Some u) x h r l = grown_follows
   entered_follows None x h r l = placed_follows x h r l
@@ -252,11 +253,10 @@ module _ (line : Line) (z before clock : ℕ) (old : List ZoneTrain) (d : Distin
       by_test (uses_mark (find_way t.0 (map (grown_train clock) old)) mark)
       (λ y. rw y (changed_follows t.0 (reported_by (seg_len line) time mark offset integrity) (λ x. refl) (λ x. rw c (reported_silent line before time x.report))))
       (λ n. rw n grown_follows)
-  after_follows (msg.Time time t) c = grown_follows
   after_follows (msg.Answer t time number taken) c = changed_follows t.0 (answer (seg_len line) number taken) (λ x. refl) (λ x. refl)
-  after_follows (msg.Auth t number mark path) c = grown_follows
+  after_follows _ c = grown_follows
 
 -- growth changes no number
-pub fresh_grown : (clock : ℕ) (xs : List ZoneTrain) → list_all fresh_train (map (grown_train clock) xs) ≡ list_all fresh_train xs
+pub fresh_grown : (clock : ℕ) (xs : List Controlled) → list_all fresh_train (map (grown_train clock) xs) ≡ list_all fresh_train xs
 fresh_grown clock [] = refl
 fresh_grown clock (x ∷ xs) = rw (fresh_grown clock xs) refl

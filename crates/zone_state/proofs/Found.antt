@@ -1,56 +1,65 @@
 -- A train by its index, and what holds of all trains.
-use Rattle.std.proofs.Common.{◌≡◌, ℕ, suc, zero, subst, ◌+◌, ◌<◌, ◌≤◌, Bool, true, false, List, [], ◌∷◌, length, map, take, drop, ◌++◌, get_or, Result, Ok, Err, Some, None, is_some, refl, sym, ap, ◌∙◌, arith, nat_eq, nat_lt, nat_le}
+use Rattle.std.proofs.Common.{◌≡◌, ℕ, suc, zero, subst, ◌+◌, ◌<◌, ◌≤◌, Bool, true, false, List, [], ◌∷◌, length, take, drop, ◌++◌, get_or, Result, Ok, Err, Option, Some, None, is_some, refl, sym, ap, ◌∙◌, arith, nat_eq, nat_lt, nat_le}
 use Rattle.std.proofs.Math.ListN.{set}
 use Rattle.std.proofs.Math.Seq.{take-append_seam}
 use Rattle.std.specs.List.{list_all, position, position_or_len}
 use Rattle.std.proofs.lemmas.Bool.Decides.{nat_tests}
-use Rattle.std.proofs.lemmas.List.{set-get_or, map-set}
 use Rattle.std.proofs.lemmas.List.Quantifiers.{position-Some}
 use Rattle.std.proofs.lemmas.List.Sums.{fails_before_first}
 use Rattle.track_points.specs.declared.ids.DirSeg.{DirSeg}
 use Rattle.track_points.specs.Points.{Lengths, total, place_of_last, end_place, visits, no_segment_twice}
 use Rattle.track_points.proofs.Some.{by_test}
 use Rattle.definitions.specs.Track.{Line, seg_len, joined, last_step}
-use Rattle.definitions.specs.Limit.{Reach}
 use Rattle.definitions.specs.Steps.{entry_path}
-use Rattle.definitions.specs.Ways.{PlainWay, path_in_range}
+use Rattle.definitions.specs.Ways.{path_in_range}
 use Rattle.way_path.specs.declared.way.WayFault.{WayFault}
 use Rattle.way_path.specs.declared.way.WayFault.TheVariants.{NotJoined, Repeated, OutOfRange, Throats, Full}
-use Rattle.way_path.specs.Ways.{Makes}
-use Rattle.plain_state.specs.ZoneTrain.{ZoneTrain}
-use Rattle.plain_state.specs.Zone.{find_way, change_way, ways_asked, lengthened, answered_by, answer}
-use Rattle.zone_reach.specs.declared.train.Controlled.{Controlled}
-use Rattle.zone_reach.specs.Train.{plain_train}
+use Rattle.way_path.specs.Ways.{PlacedWay, Makes}
+use Rattle.plain_state.specs.declared.Shrink.{Shrink}
+use Rattle.plain_state.specs.declared.Controlled.{Controlled}
+use Rattle.plain_state.specs.Zone.{find_way, change_way, answered_by, answer}
 use Rattle.zone_reach.specs.Reach.{path_fits}
-use Rattle.zone_state.specs.Zone.{is_train, counted, way_asked, TrainFits, AllFit}
+use Rattle.zone_state.specs.Zone.{is_train, TrainFits, AllFit}
 
 found_at : (t : ℕ) (xs : List Controlled) (i : ℕ) (d : Controlled) → i < length xs → is_train t (get_or xs i d) ≡ true
-    → ((k : ℕ) → k < i → is_train t (get_or xs k d) ≡ false) → find_way t (map plain_train xs) ≡ Some (plain_train (get_or xs i d))
+    → ((k : ℕ) → k < i → is_train t (get_or xs k d) ≡ false) → find_way t xs ≡ Some (get_or xs i d)
 unfolding find_way
 found_at t [] i d h p b = absurd (omega arith)
 found_at t (x ∷ xs) zero d h p b = rw p refl
 found_at t (x ∷ xs) (suc i) d h p b =
     let n : is_train t x ≡ false = b 0 (omega arith) in rw n (found_at t xs i d (omega arith) p (λ k l. b (suc k) (omega arith)))
 
-changed_at : (t : ℕ) (f : ZoneTrain → ZoneTrain) (xs : List Controlled) (i : ℕ) (d y : Controlled) → i < length xs → is_train t (get_or xs i d) ≡ true
-    → ((k : ℕ) → k < i → is_train t (get_or xs k d) ≡ false) → plain_train y ≡ f (plain_train (get_or xs i d))
-    → change_way t f (map plain_train xs) ≡ map plain_train (set xs i y)
+changed_at : (t : ℕ) (f : Controlled → Controlled) (xs : List Controlled) (i : ℕ) (d y : Controlled) → i < length xs → is_train t (get_or xs i d) ≡ true
+    → ((k : ℕ) → k < i → is_train t (get_or xs k d) ≡ false) → y ≡ f (get_or xs i d)
+    → change_way t f xs ≡ set xs i y
 unfolding change_way
 changed_at t f [] i d y h p b e = absurd (omega arith)
-changed_at t f (x ∷ xs) zero d y h p b e = rw p (ap (λ (z : ZoneTrain). z ∷ map plain_train xs) (sym e))
+changed_at t f (x ∷ xs) zero d y h p b e = rw p (ap (λ (z : Controlled). z ∷ xs) (sym e))
 changed_at t f (x ∷ xs) (suc i) d y h p b e =
     let n : is_train t x ≡ false = b 0 (omega arith) in
-    rw n (ap (λ (ys : List ZoneTrain). plain_train x ∷ ys) (changed_at t f xs i d y (omega arith) p (λ k l. b (suc k) (omega arith)) e))
+    rw n (ap (λ (ys : List Controlled). x ∷ ys) (changed_at t f xs i d y (omega arith) p (λ k l. b (suc k) (omega arith)) e))
 
-pub found : (t : ℕ) (xs : List Controlled) (i : ℕ) (d : Controlled) → position (is_train t) xs ≡ Some i → find_way t (map plain_train xs) ≡ Some (plain_train (get_or xs i d))
+pub found : (t : ℕ) (xs : List Controlled) (i : ℕ) (d : Controlled) → position (is_train t) xs ≡ Some i → find_way t xs ≡ Some (get_or xs i d)
 found t xs i d h = let p = position-Some (is_train t) xs i d h in found_at t xs i d p.0 p.1 p.2
 
-pub found_is : (t : ℕ) (xs : List Controlled) (i : ℕ) (x : Controlled) → position (is_train t) xs ≡ Some i → x ≡ get_or xs i x → find_way t (map plain_train xs) ≡ Some (plain_train x)
-found_is t xs i x h e = found t xs i x h ∙ ap (λ (y : Controlled). Some (plain_train y)) (sym e)
+pub found_is : (t : ℕ) (xs : List Controlled) (i : ℕ) (x : Controlled) → position (is_train t) xs ≡ Some i → x ≡ get_or xs i x → find_way t xs ≡ Some x
+found_is t xs i x h e = found t xs i x h ∙ ap (λ (y : Controlled). Some (y)) (sym e)
 
-pub changed : (t : ℕ) (f : ZoneTrain → ZoneTrain) (xs : List Controlled) (i : ℕ) (d y : Controlled) → position (is_train t) xs ≡ Some i → plain_train y ≡ f (plain_train (get_or xs i d))
-    → change_way t f (map plain_train xs) ≡ map plain_train (set xs i y)
+pub changed : (t : ℕ) (f : Controlled → Controlled) (xs : List Controlled) (i : ℕ) (d y : Controlled) → position (is_train t) xs ≡ Some i → y ≡ f (get_or xs i d)
+    → change_way t f xs ≡ set xs i y
 changed t f xs i d y h e = let p = position-Some (is_train t) xs i d h in changed_at t f xs i d y p.0 p.1 p.2 e
+
+pub changed_is : (t : ℕ) (f : Controlled → Controlled) (xs : List Controlled) (i : ℕ) (x y : Controlled) → position (is_train t) xs ≡ Some i → x ≡ get_or xs i x → y ≡ f x → change_way t f xs ≡ set xs i y
+changed_is t f xs i x y h e g = changed t f xs i x y h (g ∙ ap f e)
+
+-- what is read twice at an index
+pub read_same : (xs : List Controlled) (i : ℕ) (x y : Controlled) → i < length xs → x ≡ get_or xs i x → y ≡ get_or xs i y → x ≡ y
+read_same xs i x y l e f = e ∙ (read xs i x y l ∙ sym f)
+  where
+    read : (xs : List Controlled) (i : ℕ) (x y : Controlled) → i < length xs → get_or xs i x ≡ get_or xs i y
+    read [] i x y l = absurd (omega arith)
+    read (z ∷ zs) zero x y l = refl
+    read (z ∷ zs) (suc i) x y l = read zs i x y (omega arith)
 
 none_at : (t : ℕ) (xs : List Controlled) → position (is_train t) xs ≡ None → (k : ℕ) (d : Controlled) → k < length xs → is_train t (get_or xs k d) ≡ false
 none_at t xs h k d l =
@@ -58,70 +67,67 @@ none_at t xs h k d l =
     (λ y. let q = rw y at h in absurd (cc))
     (λ n. fails_before_first (is_train t) xs k d (grind (arith, nat_tests)))
 
-absent_at : (t : ℕ) (xs : List Controlled) → ((k : ℕ) (d : Controlled) → k < length xs → is_train t (get_or xs k d) ≡ false) → find_way t (map plain_train xs) ≡ None
+absent_at : (t : ℕ) (xs : List Controlled) → ((k : ℕ) (d : Controlled) → k < length xs → is_train t (get_or xs k d) ≡ false) → find_way t xs ≡ None
 unfolding find_way
 absent_at t [] h = refl
 absent_at t (x ∷ xs) h = let n : is_train t x ≡ false = h 0 x (omega arith) in rw n (absent_at t xs (λ k d l. h (suc k) d (omega arith)))
 
-kept_at : (t : ℕ) (f : ZoneTrain → ZoneTrain) (xs : List Controlled) → ((k : ℕ) (d : Controlled) → k < length xs → is_train t (get_or xs k d) ≡ false)
-    → change_way t f (map plain_train xs) ≡ map plain_train xs
+kept_at : (t : ℕ) (f : Controlled → Controlled) (xs : List Controlled) → ((k : ℕ) (d : Controlled) → k < length xs → is_train t (get_or xs k d) ≡ false)
+    → change_way t f xs ≡ xs
 unfolding change_way
 kept_at t f [] h = refl
 kept_at t f (x ∷ xs) h =
     let n : is_train t x ≡ false = h 0 x (omega arith) in
-    rw n (ap (λ (ys : List ZoneTrain). plain_train x ∷ ys) (kept_at t f xs (λ k d l. h (suc k) d (omega arith))))
+    rw n (ap (λ (ys : List Controlled). x ∷ ys) (kept_at t f xs (λ k d l. h (suc k) d (omega arith))))
 
-pub absent : (t : ℕ) (xs : List Controlled) → position (is_train t) xs ≡ None → find_way t (map plain_train xs) ≡ None
+pub absent : (t : ℕ) (xs : List Controlled) → position (is_train t) xs ≡ None → find_way t xs ≡ None
 absent t xs h = absent_at t xs (none_at t xs h)
 
-pub kept : (t : ℕ) (f : ZoneTrain → ZoneTrain) (xs : List Controlled) → position (is_train t) xs ≡ None → change_way t f (map plain_train xs) ≡ map plain_train xs
+pub kept : (t : ℕ) (f : Controlled → Controlled) (xs : List Controlled) → position (is_train t) xs ≡ None → change_way t f xs ≡ xs
 kept t f xs h = kept_at t f xs (none_at t xs h)
 
--- the trains behind an ask, by the index of its train
-pub asked_at : (len : Lengths) (t : ℕ) (asked : List DirSeg) (reach : Reach) (xs : List Controlled) (i : ℕ) (d y : Controlled) → position (is_train t) xs ≡ Some i
-    → plain_train y ≡ way_asked len asked reach (plain_train (get_or xs i d)) → ways_asked len t asked reach (map plain_train xs) ≡ map plain_train (set xs i y)
-asked_at len t asked reach xs i d y h e =
-    by_test (nat_eq reach.distance 0)
-    (λ z. let s : plain_train y ≡ plain_train (get_or xs i d) = rw z at e in
-    rw z (sym (map-set plain_train xs i y ∙ ap (λ (w : ZoneTrain). set (map plain_train xs) i w) s ∙ sym (map-set plain_train xs i (get_or xs i d))
-    ∙ ap (λ (ys : List Controlled). map plain_train ys) (set-get_or xs i d))))
-    (λ n. rw n (changed t (lengthened len asked reach.distance) xs i d y h (rw n at e)))
-
-pub known : (t : ℕ) (xs : List Controlled) (i : ℕ) → position (is_train t) xs ≡ Some i → is_some (find_way t (map plain_train xs)) ≡ true
+pub known : (t : ℕ) (xs : List Controlled) (i : ℕ) → position (is_train t) xs ≡ Some i → is_some (find_way t xs) ≡ true
 known t [] i h = absurd (cc)
 known t (x ∷ xs) i h = rw (found t (x ∷ xs) i x h) refl
 
-pub unknown : (t : ℕ) (xs : List Controlled) → position (is_train t) xs ≡ None → is_some (find_way t (map plain_train xs)) ≡ false
+pub unknown : (t : ℕ) (xs : List Controlled) → position (is_train t) xs ≡ None → is_some (find_way t xs) ≡ false
 unknown t xs h = rw (absent t xs h) refl
 
 -- what holds of all trains
 
-pub fit_one : (line : Line) (z clock : ℕ) (xs : List Controlled) (i : ℕ) (d : Controlled) → i < length xs → AllFit line z clock xs → TrainFits line z clock (get_or xs i d)
+pub fit_one : (line : Line) (clock : ℕ) (xs : List Controlled) (i : ℕ) (d : Controlled) → i < length xs → AllFit line clock xs → TrainFits line clock (get_or xs i d)
 unfolding AllFit
-fit_one line z clock [] i d h f = absurd (omega arith)
-fit_one line z clock (x ∷ xs) zero d h f = f.0
-fit_one line z clock (x ∷ xs) (suc i) d h f = fit_one line z clock xs i d (omega arith) f.1
+fit_one line clock [] i d h f = absurd (omega arith)
+fit_one line clock (x ∷ xs) zero d h f = f.0
+fit_one line clock (x ∷ xs) (suc i) d h f = fit_one line clock xs i d (omega arith) f.1
 
-pub fit_set : (line : Line) (z clock : ℕ) (xs : List Controlled) (i : ℕ) (x : Controlled) → AllFit line z clock xs → TrainFits line z clock x → AllFit line z clock (set xs i x)
+pub fit_set : (line : Line) (clock : ℕ) (xs : List Controlled) (i : ℕ) (x : Controlled) → AllFit line clock xs → TrainFits line clock x → AllFit line clock (set xs i x)
 unfolding AllFit
-fit_set line z clock [] i x f h = tt
-fit_set line z clock (y ∷ ys) zero x f h = (h, f.1)
-fit_set line z clock (y ∷ ys) (suc i) x f h = (f.0, fit_set line z clock ys i x f.1 h)
+fit_set line clock [] i x f h = tt
+fit_set line clock (y ∷ ys) zero x f h = (h, f.1)
+fit_set line clock (y ∷ ys) (suc i) x f h = (f.0, fit_set line clock ys i x f.1 h)
 
-pub fit_none : (line : Line) (z clock : ℕ) (xs : List Controlled) → xs ≡ [] → AllFit line z clock xs
+pub fit_none : (line : Line) (clock : ℕ) (xs : List Controlled) → xs ≡ [] → AllFit line clock xs
 unfolding AllFit
-fit_none line z clock xs e = rw e tt
+fit_none line clock xs e = rw e tt
 
 -- an answer to a train without a shrink
-pub answered_plain : (len : Lengths) (number : ℕ) (taken : Bool) (t : ℕ) (xs : List Controlled) → change_way t (answered_by number) (map plain_train xs) ≡ change_way t (answer len number taken) (map plain_train xs)
-unfolding change_way
-answered_plain len number taken t [] = refl
-answered_plain len number taken t (x ∷ xs) = by_test (nat_eq x.id.0 t)
-    (λ y. rw y refl)
-    (λ n. rw n (ap (λ (ys : List ZoneTrain). plain_train x ∷ ys) (answered_plain len number taken t xs)))
+one_answered : (len : Lengths) (number : ℕ) (taken : Bool) (x : Controlled) → x.pending ≡ None → answered_by number x ≡ answer len number taken x
+one_answered len number taken x none = sym (ap by_shrink none ∙ ap (λ (p : Option Shrink). record (answered_by number x) { pending = p }) (sym none))
+  where
+    by_shrink : Option Shrink → Controlled
+    by_shrink p = answer len number taken (record x { pending = p })
 
-pub fit_counted : (line : Line) (z clock number : ℕ) (x : Controlled) → TrainFits line z clock x → TrainFits line z clock (counted number x)
-fit_counted line z clock number x f = record {
+pub answered_is : (line : Line) (clock : ℕ) (len : Lengths) (number : ℕ) (taken : Bool) (t : ℕ) (xs : List Controlled) → AllFit line clock xs
+    → change_way t (answered_by number) xs ≡ change_way t (answer len number taken) xs
+unfolding change_way AllFit
+answered_is line clock len number taken t [] f = refl
+answered_is line clock len number taken t (x ∷ xs) f = by_test (nat_eq x.id.0 t)
+    (λ y. rw y (ap (λ (z : Controlled). z ∷ xs) (one_answered len number taken x f.0.unshrunk)))
+    (λ n. rw n (ap (λ (ys : List Controlled). x ∷ ys) (answered_is line clock len number taken t xs f.1)))
+
+pub fit_counted : (line : Line) (clock number : ℕ) (x : Controlled) → TrainFits line clock x → TrainFits line clock (answered_by number x)
+fit_counted line clock number x f = record {
   way = f.way;
   on_line = f.on_line;
   ends = f.ends;
@@ -130,29 +136,32 @@ fit_counted line z clock number x f = record {
   ordered = f.ordered;
   ahead = f.ahead;
   at = f.at;
-  hold = f.hold;
+  unshrunk = f.unshrunk;
 }
 
 -- at its own time, and back
-pub fit_own : (line : Line) (z clock : ℕ) (x : Controlled) → TrainFits line z clock x → TrainFits line z x.fronts.at x
-fit_own line z clock x f = subst (λ (n : ℕ). TrainFits line z n x) (sym f.at) f
+pub fit_own : (line : Line) (clock : ℕ) (x : Controlled) → TrainFits line clock x → TrainFits line x.fronts.at x
+fit_own line clock x f = subst (λ (n : ℕ). TrainFits line n x) (sym f.at) f
 
-pub fit_again : (line : Line) (z clock : ℕ) (x y : Controlled) → TrainFits line z clock x → TrainFits line z x.fronts.at y → TrainFits line z clock y
-fit_again line z clock x y f g = subst (λ (n : ℕ). TrainFits line z n y) f.at g
+pub fit_again : (line : Line) (clock : ℕ) (x y : Controlled) → TrainFits line clock x → TrainFits line x.fronts.at y → TrainFits line clock y
+fit_again line clock x y f g = subst (λ (n : ℕ). TrainFits line n y) f.at g
 
 -- a test that every train passes
-pub passes : (test : ZoneTrain → Bool) (xs : List Controlled) (i : ℕ) (d : Controlled) → i < length xs → list_all test (map plain_train xs) ≡ true → test (plain_train (get_or xs i d)) ≡ true
+passes : (test : Controlled → Bool) (xs : List Controlled) (i : ℕ) (d : Controlled) → i < length xs → list_all test xs ≡ true → test (get_or xs i d) ≡ true
 passes test [] i d l h = absurd (omega arith)
 passes test (x ∷ xs) zero d l h = grind arith
 passes test (x ∷ xs) (suc i) d l h = passes test xs i d (omega arith) (grind arith)
 
+pub passes_is : (test : Controlled → Bool) (xs : List Controlled) (i : ℕ) (x : Controlled) → i < length xs → x ≡ get_or xs i x → list_all test xs ≡ true → test x ≡ true
+passes_is test xs i x l e h = ap test e ∙ passes test xs i x l h
+
 -- a train that fits, found
-pub fit_found : (line : Line) (z clock : ℕ) (xs : List Controlled) (i : ℕ) (x : Controlled) → i < length xs → x ≡ get_or xs i x → AllFit line z clock xs → TrainFits line z clock x
-fit_found line z clock xs i x l e f = rw e (fit_one line z clock xs i x l f)
+pub fit_found : (line : Line) (clock : ℕ) (xs : List Controlled) (i : ℕ) (x : Controlled) → i < length xs → x ≡ get_or xs i x → AllFit line clock xs → TrainFits line clock x
+fit_found line clock xs i x l e f = rw e (fit_one line clock xs i x l f)
 
 -- a train that fits has a path that fits
-pub fit_path : (line : Line) (z clock : ℕ) (x : Controlled) → TrainFits line z clock x → path_fits (seg_len line) x.way.path ≡ true
-fit_path line z clock x f =
+pub fit_path : (line : Line) (clock : ℕ) (x : Controlled) → TrainFits line clock x → path_fits (seg_len line) x.way.path ≡ true
+fit_path line clock x f =
     let s = f.way.some in let w = f.on_line.within in let e = f.ends in
     let a : nat_lt 0 (length x.way.path.steps.items) ≡ true = grind (arith, nat_tests) in
     let b : nat_le (end_place (seg_len line) x.way.path) (total (seg_len line) x.way.path.steps.items) ≡ true = let le : end_place (seg_len line) x.way.path ≤ total (seg_len line) x.way.path.steps.items = omega arith in grind (arith, nat_tests) in
@@ -167,8 +176,8 @@ pub entry_in_range : (line : Line) (step : DirSeg) (room : ℕ) → room ≡ seg
 unfolding last_step place_of_last
 entry_in_range line step room e h = grind (arith, nat_tests)
 
-pub entry_makes : (line : Line) (step : DirSeg) (room : ℕ) (r : Result PlainWay WayFault) → room ≡ seg_len line step.seg.0 → 0 < room → Makes line 0 (entry_path step room) r
-    → (way : PlainWay) × (r ≡ Ok way)
+pub entry_makes : (line : Line) (step : DirSeg) (room : ℕ) (r : Result PlacedWay WayFault) → room ≡ seg_len line step.seg.0 → 0 < room → Makes line 0 (entry_path step room) r
+    → (way : PlacedWay) × (r ≡ Ok way)
 unfolding joined no_segment_twice visits
 entry_makes line step room (Ok way) e h m = (way, refl)
 entry_makes line step room (Err (NotJoined i)) e h m = let w = rw (first_of_one step i m.there) at m.with_it in absurd (let z : true ≡ false = w in cc)

@@ -6,3 +6,5 @@ pub mod Behind
 pub mod Alarms
 pub mod Placed
 pub mod Advanced
+pub mod Holds
+pub mod Asked

@@ -1,5 +1,5 @@
 -- What the time and a report make of the fronts of a train.
-use Rattle.std.proofs.Common.{◌≡◌, ℕ, suc, zero, ◌++◌, length, take, drop, get_or, ◌+◌, ◌-◌, ◌<◌, ◌≤◌, min, Bool, true, false, List, [], ◌∷◌, map, refl, sym, ap, ◌∙◌, arith, nat_lt}
+use Rattle.std.proofs.Common.{◌≡◌, ℕ, suc, zero, ◌++◌, length, take, drop, get_or, ◌+◌, ◌-◌, ◌<◌, ◌≤◌, min, max, Bool, true, false, List, [], ◌∷◌, map, refl, sym, ap, ◌∙◌, arith, nat_lt}
 use Rattle.std.proofs.lemmas.Bool.Decides.{nat_tests}
 use Rattle.std.proofs.lemmas.Int.{ints}
 use Rattle.std.specs.Prelude.{ℤ, pos, ◌*◌, ◌<ℤ◌, nat_abs}
@@ -7,13 +7,12 @@ use Rattle.std.specs.Int.Signed.{le_z, lt_z}
 use Rattle.track_points.proofs.Some.{by_test}
 use Rattle.envelope.specs.declared.fronts.Fronts.{Fronts}
 use Rattle.envelope.specs.Fronts.{farthest_move, is_front, grown, kept, IsHull}
-use Rattle.envelope.specs.Ends.{least_left, greatest_left}
+use Rattle.envelope.specs.Ends.{least_left, greatest_left, narrowed}
 use Rattle.envelope.proofs.Rules.{grown_hull, kept_hull, kept_none, are_ends}
 use Rattle.definitions.specs.Track.{Line}
-use Rattle.plain_state.specs.Zone.{least_kept, greatest_kept, narrowed, grown_train}
-use Rattle.zone_reach.specs.declared.train.Controlled.{Controlled}
-use Rattle.zone_reach.specs.Train.{plain_train}
-use Rattle.zone_state.specs.Zone.{TrainFits, TrainStands, AllFit, CanGrow, AllCanGrow, grown_controlled, narrowed_controlled}
+use Rattle.plain_state.specs.declared.Controlled.{Controlled}
+use Rattle.plain_state.specs.Zone.{grown_train, narrowed_train}
+use Rattle.zone_state.specs.Zone.{TrainFits, TrainStands, AllFit, CanGrow, AllCanGrow, ZoneKept, passed}
 
 pub silent_is : (ms report clock : ℕ) → nat_lt ms (clock - report) ≡ nat_lt (report + ms) clock
 silent_is ms report clock = grind (arith, nat_tests)
@@ -51,14 +50,14 @@ fronts_grown old new moved limit clock o w h a =
 
 pub train_grown : (clock : ℕ) (x : Controlled) (new : Fronts) → CanGrow x.fronts.at x
     → IsHull (grown (is_front x.fronts) (farthest_move x.speed (clock - x.fronts.at)) x.way.end) new.lo new.hi → new.at ≡ clock
-    → record x { fronts = new } ≡ grown_controlled clock x
+    → record x { fronts = new } ≡ grown_train clock x
 train_grown clock x new g h a =
     ap (λ (f : Fronts). record x { fronts = f }) (fronts_grown x.fronts new (farthest_move x.speed (clock - x.fronts.at)) x.way.end clock g.ordered g.ahead h a)
 
-pub can_grow : (line : Line) (z before : ℕ) (xs : List Controlled) → AllFit line z before xs → AllCanGrow before xs
+pub can_grow : (line : Line) (before : ℕ) (xs : List Controlled) → AllFit line before xs → AllCanGrow before xs
 unfolding AllFit AllCanGrow
-can_grow line z before [] f = tt
-can_grow line z before (x ∷ xs) f = (record { ordered = f.0.ordered; ahead = f.0.ahead; at = f.0.at }, can_grow line z before xs f.1)
+can_grow line before [] f = tt
+can_grow line before (x ∷ xs) f = (record { ordered = f.0.ordered; ahead = f.0.ahead; at = f.0.at }, can_grow line before xs f.1)
 
 pub grows_at : (before : ℕ) (xs : List Controlled) (i : ℕ) (d : Controlled) → i < length xs → AllCanGrow before xs → CanGrow before (get_or xs i d)
 unfolding AllCanGrow
@@ -78,8 +77,8 @@ still_as_was f xs ys i d h e = ap (λ zs. get_or zs i d) e ∙ read f xs i d h
     read f (x ∷ xs) zero d h = refl
     read f (x ∷ xs) (suc i) d h = read f xs i d (omega arith)
 
-grown_fits : (line : Line) (z before clock : ℕ) (x : Controlled) → TrainFits line z before x → TrainFits line z clock (grown_controlled clock x)
-grown_fits line z before clock x f = record {
+grown_fits : (line : Line) (before clock : ℕ) (x : Controlled) → TrainFits line before x → TrainFits line clock (grown_train clock x)
+grown_fits line before clock x f = record {
   way = f.way;
   on_line = f.on_line;
   ends = f.ends;
@@ -88,20 +87,16 @@ grown_fits line z before clock x f = record {
   ordered = let o = f.ordered in let a = f.ahead in omega arith;
   ahead = omega arith;
   at = refl;
-  hold = f.hold;
+  unshrunk = f.unshrunk;
 }
 
-pub all_grown_fit : (line : Line) (z before clock : ℕ) (xs : List Controlled) → AllFit line z before xs → AllFit line z clock (map (grown_controlled clock) xs)
+pub all_grown_fit : (line : Line) (before clock : ℕ) (xs : List Controlled) → AllFit line before xs → AllFit line clock (map (grown_train clock) xs)
 unfolding AllFit
-all_grown_fit line z before clock [] f = tt
-all_grown_fit line z before clock (x ∷ xs) f = (grown_fits line z before clock x f.0, all_grown_fit line z before clock xs f.1)
-
-pub all_grown : (clock : ℕ) (xs : List Controlled) → map plain_train (map (grown_controlled clock) xs) ≡ map (grown_train clock) (map plain_train xs)
-all_grown clock [] = refl
-all_grown clock (x ∷ xs) = ap (λ ys. plain_train (grown_controlled clock x) ∷ ys) (all_grown clock xs)
+all_grown_fit line before clock [] f = tt
+all_grown_fit line before clock (x ∷ xs) f = (grown_fits line before clock x f.0, all_grown_fit line before clock xs f.1)
 
 -- by 0 ms no front grows
-not_grown : (clock : ℕ) (x : Controlled) → CanGrow clock x → grown_train clock (plain_train x) ≡ plain_train x
+not_grown : (clock : ℕ) (x : Controlled) → CanGrow clock x → grown_train clock x ≡ x
 not_grown clock x f =
     let a = f.at in let h = f.ahead in
     let m : clock - x.fronts.at ≡ 0 = omega arith in
@@ -109,10 +104,13 @@ not_grown clock x f =
     let e : min (x.fronts.hi + farthest_move x.speed (clock - x.fronts.at)) x.way.end ≡ x.fronts.hi = rw (m, q) (omega arith) in
     rw (e, ← a) refl
 
-pub none_grown : (clock : ℕ) (xs : List Controlled) → AllCanGrow clock xs → map (grown_train clock) (map plain_train xs) ≡ map plain_train xs
+pub none_grown : (clock : ℕ) (xs : List Controlled) → AllCanGrow clock xs → map (grown_train clock) xs ≡ xs
 unfolding AllCanGrow
 none_grown clock [] f = refl
 none_grown clock (x ∷ xs) f = rw (not_grown clock x f.0, none_grown clock xs f.1) refl
+
+pub none_passes : (time : ℕ) (z : ZoneKept) → time ≤ z.plain.clock → AllCanGrow z.plain.clock z.plain.trains → z ≡ passed time z
+none_passes time z l g = let m : max z.plain.clock time ≡ z.plain.clock = omega arith in rw (m, none_grown z.plain.clock z.plain.trains g) refl
 
 -- A report.
 
@@ -125,19 +123,19 @@ below lo hi h = grind (arith, ints)
 pub fronts_kept : (old new : Fronts) (est : ℤ) (err moved : ℕ) (integrity used : Bool) → old.lo ≤ old.hi
     → (used ≡ true → IsHull (kept (is_front old) est err moved integrity) new.lo new.hi)
     → (used ≡ false → (f : ℕ) → kept (is_front old) est err moved integrity f ≡ false) → (used ≡ false → new ≡ old) → new.at ≡ old.at
-    → new ≡ narrowed old (least_kept old.lo est err integrity) (greatest_kept old.hi est err moved)
+    → new ≡ narrowed old (least_left old.lo est err integrity) (greatest_left old.hi est err moved)
 fronts_kept old new est err moved integrity true o h n u a =
-    by_test (le_z (least_kept old.lo est err integrity) (greatest_kept old.hi est err moved))
+    by_test (le_z (least_left old.lo est err integrity) (greatest_left old.hi est err moved))
     (λ y.
-    let k = kept_hull old est err moved integrity (least_kept old.lo est err integrity) (greatest_kept old.hi est err moved) refl refl (not_below (least_kept old.lo est err integrity) (greatest_kept old.hi est err moved) y) in
+    let k = kept_hull old est err moved integrity (least_left old.lo est err integrity) (greatest_left old.hi est err moved) refl refl (not_below (least_left old.lo est err integrity) (greatest_left old.hi est err moved) y) in
     let s = hull_same (kept (is_front old) est err moved integrity) new.lo new.hi _ _ (h refl) k in
-    rw y (fronts_are new (nat_abs (least_kept old.lo est err integrity)) (nat_abs (greatest_kept old.hi est err moved)) old.at s.0 s.1 a))
-    (λ x. absurd (let p = (h refl).least in let q = kept_none old est err moved integrity (below (least_kept old.lo est err integrity) (greatest_kept old.hi est err moved) x) new.lo in let z : true ≡ false = sym p ∙ q in cc))
+    rw y (fronts_are new (nat_abs (least_left old.lo est err integrity)) (nat_abs (greatest_left old.hi est err moved)) old.at s.0 s.1 a))
+    (λ x. absurd (let p = (h refl).least in let q = kept_none old est err moved integrity (below (least_left old.lo est err integrity) (greatest_left old.hi est err moved) x) new.lo in let z : true ≡ false = sym p ∙ q in cc))
 fronts_kept old new est err moved integrity false o h n u a =
-    by_test (le_z (least_kept old.lo est err integrity) (greatest_kept old.hi est err moved))
+    by_test (le_z (least_left old.lo est err integrity) (greatest_left old.hi est err moved))
     (λ y.
-    let k = kept_hull old est err moved integrity (least_kept old.lo est err integrity) (greatest_kept old.hi est err moved) refl refl (not_below (least_kept old.lo est err integrity) (greatest_kept old.hi est err moved) y) in
-    absurd (let p = k.least in let q = n refl (nat_abs (least_kept old.lo est err integrity)) in let z : true ≡ false = sym p ∙ q in cc))
+    let k = kept_hull old est err moved integrity (least_left old.lo est err integrity) (greatest_left old.hi est err moved) refl refl (not_below (least_left old.lo est err integrity) (greatest_left old.hi est err moved) y) in
+    absurd (let p = k.least in let q = n refl (nat_abs (least_left old.lo est err integrity)) in let z : true ≡ false = sym p ∙ q in cc))
     (λ x. rw x (u refl))
 
 -- what is left of fronts
@@ -155,11 +153,11 @@ at_most_old : (last : ℕ) (est : ℤ) (err moved n : ℕ) → pos n ≡ greates
 at_most_old last est err moved n h = grind (arith, ints)
 
 left_of : (old : Fronts) (est : ℤ) (err moved : ℕ) (integrity : Bool) → old.lo ≤ old.hi
-    → LeftOf old (narrowed old (least_kept old.lo est err integrity) (greatest_kept old.hi est err moved))
+    → LeftOf old (narrowed old (least_left old.lo est err integrity) (greatest_left old.hi est err moved))
 left_of old est err moved integrity o =
-    by_test (le_z (least_kept old.lo est err integrity) (greatest_kept old.hi est err moved))
+    by_test (le_z (least_left old.lo est err integrity) (greatest_left old.hi est err moved))
     (λ y.
-    let e = are_ends old.lo est err integrity (least_kept old.lo est err integrity) (greatest_kept old.hi est err moved) refl (not_below (least_kept old.lo est err integrity) (greatest_kept old.hi est err moved) y) in
+    let e = are_ends old.lo est err integrity (least_left old.lo est err integrity) (greatest_left old.hi est err moved) refl (not_below (least_left old.lo est err integrity) (greatest_left old.hi est err moved) y) in
     rw y record {
       least = at_least_old old.lo est err _ integrity e.least;
       ordered = e.ordered;
@@ -168,9 +166,9 @@ left_of old est err moved integrity o =
     })
     (λ x. rw x record { least = omega arith; ordered = o; greatest = omega arith; at = refl })
 
-pub narrowed_stands : (line : Line) (z clock : ℕ) (place : ℤ) (time : ℕ) (integrity : Bool) (x : Controlled) → TrainFits line z clock x
-    → TrainStands line (narrowed_controlled place time integrity x)
-narrowed_stands line z clock place time integrity x f =
+pub narrowed_stands : (line : Line) (clock : ℕ) (place : ℤ) (time : ℕ) (integrity : Bool) (x : Controlled) → TrainFits line clock x
+    → TrainStands line (narrowed_train place time integrity x)
+narrowed_stands line clock place time integrity x f =
     let l = left_of x.fronts place x.error (farthest_move x.speed (x.fronts.at - time)) integrity f.ordered in
     record {
       way = f.way;
@@ -180,7 +178,8 @@ narrowed_stands line z clock place time integrity x f =
       behind = let b = f.behind in let a = l.least in omega arith;
       ordered = l.ordered;
       ahead = let a = f.ahead in let b = l.greatest in omega arith;
+      unshrunk = f.unshrunk;
     }
 
-pub narrowed_at : (place : ℤ) (time : ℕ) (integrity : Bool) (x : Controlled) → x.fronts.lo ≤ x.fronts.hi → (narrowed_controlled place time integrity x).fronts.at ≡ x.fronts.at
+pub narrowed_at : (place : ℤ) (time : ℕ) (integrity : Bool) (x : Controlled) → x.fronts.lo ≤ x.fronts.hi → (narrowed_train place time integrity x).fronts.at ≡ x.fronts.at
 narrowed_at place time integrity x o = (left_of x.fronts place x.error (farthest_move x.speed (x.fronts.at - time)) integrity o).at

@@ -1,4 +1,3 @@
-pub use Rattle.zone_reach.specs.Train
 pub use Rattle.zone_reach.specs.Reach
 pub use Rattle.zone_reach.specs.Held
 pub mod Zone

@@ -1,13 +1,13 @@
 //! What the time does to the trains: their fronts grow, and those that no report tells of fall silent.
-ghost use Rattle.std.specs.Prelude.{nat_lt, ◌≡◌, ◌≤◌, ◌+◌, ◌++◌, ℕ, List, length, map};
+ghost use Rattle.std.specs.Prelude.{nat_lt, ◌≡◌, ◌≤◌, ◌+◌, ◌++◌, ℕ, List, length, map, max};
 ghost use Rattle.definitions.specs.declared.item.Item.{Item};
 ghost use Rattle.plain_state.specs.Zone.{grown_train};
-ghost use Rattle.zone_reach.specs.Train.{plain_train};
-ghost use Rattle.zone_state.specs.Zone.{grown_controlled, AllFit, CanGrow, AllCanGrow, falls_silent, alarms_of};
+ghost use Rattle.zone_state.specs.Zone.{ZoneFits, CanGrow, AllCanGrow, passed, falls_silent, alarms_of};
 
+use crate::zone::Zone;
 use msg_codec::{Outcome, Outs};
+use plain_state::Controlled;
 use track_points::ZoneId;
-use zone_reach::Controlled;
 
 /// Whether a train is silent at a Now, which is more than some ms behind its last report.
 #[tactic(auto, using(crate::proofs::Timed::silent_is))]
@@ -21,7 +21,7 @@ pub fn is_silent(ms: u64, report: u64, clock: u64) -> bool
 fn grow(x: &mut Controlled, clock: u64)
     requires grows { CanGrow x.old.fronts.at x.old }
     requires later { x.old.fronts.at ≤ clock }
-    ensures { x.new ≡ grown_controlled clock x.old }
+    ensures { x.new ≡ grown_train clock x.old }
 {
     x.fronts.grow(clock, x.speed, x.way.end());
 }
@@ -30,29 +30,16 @@ fn grow(x: &mut Controlled, clock: u64)
 fn grow_each(trains: &mut [Controlled], before: u64, clock: u64)
     requires grow { AllCanGrow before trains.old }
     requires later { before ≤ clock }
-    ensures { trains.new ≡ map (grown_controlled clock) trains.old }
+    ensures { trains.new ≡ map (grown_train clock) trains.old }
 {
     for i in 0..trains.len() {
         grow(&mut trains[i], clock);
     }
 }
 
-/// Lets the fronts of all trains grow as Now rises. Where it stays none grows.
-pub fn grow_all(trains: &mut [Controlled], before: u64, clock: u64)
-    requires grow { AllCanGrow before trains.old }
-    requires later { before ≤ clock }
-    ensures next { map plain_train trains.new ≡ map (grown_train clock) (map plain_train trains.old) }
-    ensures fits { (line : List Item) (z : ℕ) → AllFit line z before trains.old → AllFit line z clock trains.new }
-    ensures count { length trains.new ≡ length trains.old }
-{
-    if before < clock {
-        grow_each(trains, before, clock);
-    }
-}
-
 /// Whether a train falls silent as Now rises.
 fn falls_silent(ms: u64, before: u64, clock: u64, x: &Controlled) -> bool
-    ensures { result ≡ falls_silent ms before clock (plain_train x.now) }
+    ensures { result ≡ falls_silent ms before clock x.now }
 {
     !is_silent(ms, x.report, before) && is_silent(ms, x.report, clock)
 }
@@ -60,12 +47,26 @@ fn falls_silent(ms: u64, before: u64, clock: u64, x: &Controlled) -> bool
 /// Tells each train that falls silent as Now rises, which is one more than some ms behind its last report.
 pub fn alarms(ms: u64, zone: u8, before: u64, clock: u64, trains: &[Controlled], outs: &mut Outs)
     requires { length outs.old.lines + length trains.now ≤ 1100 }
-    ensures { outs.new ≡ record { issued = outs.old.issued; lines = outs.old.lines ++ alarms_of ms zone before clock (map plain_train trains.now) } }
+    ensures { outs.new ≡ record { issued = outs.old.issued; lines = outs.old.lines ++ alarms_of ms zone before clock trains.now } }
 {
     if let [x, rest @ ..] = trains {
         if falls_silent(ms, before, clock, x) {
             outs.tell(Outcome::AlarmSilent(ZoneId(zone), x.id));
         }
         alarms(ms, zone, before, clock, rest, outs);
+    }
+}
+
+impl Zone {
+    /// Lets time pass: where a time is later than Now, Now rises to it and the fronts of all trains grow.
+    pub(crate) fn pass(&mut self, time: u64)
+        requires { AllCanGrow self.old.plain.clock self.old.plain.trains }
+        ensures next { self.new ≡ passed time self.old }
+        ensures fits { (line : List Item) → ZoneFits line self.old → ZoneFits line self.new }
+    {
+        if self.clock < time {
+            grow_each(self.trains.as_mut_slice(), self.clock, time);
+            self.clock = time;
+        }
     }
 }

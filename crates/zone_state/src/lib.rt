@@ -13,4 +13,5 @@ mod report;
 mod trains;
 pub mod zone;
 
+pub use msg_codec::{Outcome, Outs};
 pub use zone::Zone;

@@ -1,17 +1,17 @@
 //! What a report does: it narrows the fronts of its train, and the way is cut behind the rear.
-ghost use Rattle.std.specs.Prelude.{◌≡◌, ◌≤◌, ◌+◌, ◌∷◌, [], ℕ, map, if◌then◌else◌};
-ghost use Rattle.definitions.specs.declared.item.Item.{Item};
+ghost use Rattle.std.specs.Prelude.{◌≡◌, ◌≤◌, ◌+◌, ◌∷◌, [], Some, if◌then◌else◌};
 ghost use Rattle.definitions.specs.Track.{seg_len};
 ghost use Rattle.definitions.specs.Steps.{nothing};
-ghost use Rattle.plain_state.specs.Zone.{find_way, change_way, uses_mark, place_found, place_of_train, reported_by, cut_at_rear};
-ghost use Rattle.zone_reach.specs.Train.{plain_train};
-ghost use Rattle.zone_state.specs.Zone.{TrainFits, TrainStands, AllFit, FitFrom, narrowed_controlled, report_given, way_reported};
+ghost use Rattle.way_path.specs.Ways.{place_of};
+ghost use Rattle.plain_state.specs.Zone.{find_way, change_way, uses_mark, place_found, place_of_train, narrowed_train, reported_by, cut_at_rear};
+ghost use Rattle.zone_state.specs.Zone.{TrainFits, TrainStands, IsHold, ZoneFits};
 
 use crate::trains::{hold_of, train_index};
+use crate::zone::Zone;
 use line_map::Line;
 use msg_codec::{Outcome, Outs};
-use track_points::{TrainId, ZoneId};
-use zone_reach::Controlled;
+use plain_state::Controlled;
+use track_points::{PointSet, TrainId, ZoneId};
 
 /// A report of a train: its time, where the front was, as an offset on the step of a mark, and whether the train is whole.
 #[derive(Clone, Copy)]
@@ -27,7 +27,7 @@ fn narrow(x: &mut Controlled, place: i64, time: u64, integrity: bool)
     requires ordered { x.old.fronts.lo ≤ x.old.fronts.hi }
     requires earlier { time ≤ x.old.fronts.at }
     requires ahead { x.old.fronts.hi ≤ x.old.way.end }
-    ensures { x.new ≡ narrowed_controlled place time integrity x.old }
+    ensures { x.new ≡ narrowed_train place time integrity x.old }
 {
     let limit = x.way.end();
     x.fronts
@@ -39,58 +39,74 @@ fn narrow(x: &mut Controlled, place: i64, time: u64, integrity: bool)
 fn tell_place(line: &Line, zone: u8, x: &Controlled, outs: &mut Outs)
     requires stands { TrainStands line.now x.now }
     requires empty { outs.old ≡ nothing }
-    ensures { outs.new ≡ record { issued = []; lines = place_of_train (seg_len line.now) zone (plain_train x.now) ∷ [] } }
+    ensures { outs.new ≡ record { issued = []; lines = place_of_train (seg_len line.now) zone x.now ∷ [] } }
 {
     let (rear, rear_offset) = x.way.rear_at(line, x.fronts.rear(x.train_length));
     let (front, front_offset) = x.way.front_at(line, x.fronts.hi);
     outs.tell(Outcome::Place(ZoneId(zone), x.id, rear, rear_offset, front, front_offset));
 }
 
-/// Cuts the way of a train behind its rear, and makes its hold anew.
-fn cut(line: &Line, zone: u8, x: &mut Controlled)
+/// Cuts the way of a train behind its rear, and answers what is held for it then.
+fn cut(line: &Line, zone: u8, x: &mut Controlled) -> PointSet
     requires { TrainStands line.now x.old }
-    ensures next { plain_train x.new ≡ cut_at_rear (seg_len line.now) (plain_train x.old) }
-    ensures fits { TrainFits line.now zone x.old.fronts.at x.new }
+    ensures next { x.new ≡ cut_at_rear (seg_len line.now) x.old }
+    ensures fits { TrainFits line.now x.old.fronts.at x.new }
+    ensures hold { IsHold line.now zone x.new result }
 {
     let rear = x.fronts.rear(x.train_length);
     let dropped = x.way.set_from(line, rear);
     x.fronts.lo -= dropped;
     x.fronts.hi -= dropped;
-    x.hold = hold_of(line, zone, &x.way);
+    hold_of(line, zone, &x.way)
 }
 
-/// A train takes its report. Where its way has no step of that mark nothing changes.
-fn report_train(line: &Line, zone: u8, x: &mut Controlled, report: PositionReport, outs: &mut Outs)
-    requires empty { outs.old ≡ nothing }
-    requires fits { TrainFits line.now zone x.old.fronts.at x.old }
-    requires earlier { report.time ≤ x.old.fronts.at }
-    ensures gives { outs.new ≡ report_given (seg_len line.now) zone report.time report.mark report.offset report.integrity (plain_train x.old) }
-    ensures next { plain_train x.new ≡ way_reported (seg_len line.now) report.time report.mark report.offset report.integrity (plain_train x.old) }
-    ensures fits { TrainFits line.now zone x.old.fronts.at x.new }
-{
-    if let Some(place) = x.way.place_of(line, report.mark, report.offset) {
-        narrow(x, place, report.time, report.integrity);
-        tell_place(line, zone, x, outs);
-        cut(line, zone, x);
-    }
-}
-
-/// A train reports where its front was.
-pub fn report(
+/// A train takes its report, which says a place on its way. Answers what is held for it then.
+fn use_report(
     line: &Line,
     zone: u8,
-    trains: &mut [Controlled],
-    train: TrainId,
+    x: &mut Controlled,
+    place: i64,
     report: PositionReport,
     outs: &mut Outs,
-)
+) -> PointSet
     requires empty { outs.old ≡ nothing }
-    requires fits { FitFrom line.now zone report.time trains.old }
-    ensures gives { outs.new ≡ (if uses_mark (find_way train.0 (map plain_train trains.old)) report.mark then place_found (seg_len line.now) zone report.time report.mark report.offset report.integrity (find_way train.0 (map plain_train trains.old)) else nothing) }
-    ensures next { map plain_train trains.new ≡ (if uses_mark (find_way train.0 (map plain_train trains.old)) report.mark then change_way train.0 (reported_by (seg_len line.now) report.time report.mark report.offset report.integrity) (map plain_train trains.old) else map plain_train trains.old) }
-    ensures fits { (clock : ℕ) → AllFit line.now zone clock trains.old → AllFit line.now zone clock trains.new }
+    requires fits { TrainFits line.now x.old.fronts.at x.old }
+    requires earlier { report.time ≤ x.old.fronts.at }
+    requires place { place_of (seg_len line.now) x.old.way report.mark report.offset ≡ Some place }
+    ensures gives { outs.new ≡ place_found (seg_len line.now) zone report.time report.mark report.offset report.integrity (Some x.old) }
+    ensures next { x.new ≡ reported_by (seg_len line.now) report.time report.mark report.offset report.integrity x.old }
+    ensures fits { TrainFits line.now x.old.fronts.at x.new }
+    ensures hold { IsHold line.now zone x.new result }
 {
-    if let Some(i) = train_index(trains, train) {
-        report_train(line, zone, &mut trains[i], report, outs);
+    narrow(x, place, report.time, report.integrity);
+    tell_place(line, zone, x, outs);
+    cut(line, zone, x)
+}
+
+impl Zone {
+    /// A train reports where its front was. Where its way has no step of that mark nothing changes.
+    pub(crate) fn report(
+        &mut self,
+        line: &Line,
+        train: TrainId,
+        report: PositionReport,
+        outs: &mut Outs,
+    )
+        requires empty { outs.old ≡ nothing }
+        requires earlier { report.time ≤ self.old.plain.clock }
+        requires fits { ZoneFits line.now self.old }
+        ensures gives { outs.new ≡ (if uses_mark (find_way train.0 self.old.plain.trains) report.mark then place_found (seg_len line.now) self.old.plain.id report.time report.mark report.offset report.integrity (find_way train.0 self.old.plain.trains) else nothing) }
+        ensures next { self.new.plain ≡ record self.old.plain { trains = if uses_mark (find_way train.0 self.old.plain.trains) report.mark then change_way train.0 (reported_by (seg_len line.now) report.time report.mark report.offset report.integrity) self.old.plain.trains else self.old.plain.trains } }
+        ensures fits { ZoneFits line.now self.new }
+    {
+        if let Some(i) = train_index(self.trains.as_slice(), train) {
+            if let Some(place) = self.trains[i]
+                .way
+                .place_of(line, report.mark, report.offset)
+            {
+                let hold = use_report(line, self.id, &mut self.trains[i], place, report, outs);
+                self.holds[i] = hold;
+            }
+        }
     }
 }

@@ -17,9 +17,10 @@
 /// - slow train: train 7 asks for entry, at 333 mm/s; text lines 11 to 13.
 /// - trains: four of them, the last one longer than a portal's segment; text lines 11 to 15.
 /// - both on: trains 7 and 8 come on, one from each portal; text lines 16 to 25. 4 messages went to the zone by then.
-pub const PARTS: &str = "
-: four segments
-zone 1
+pub const PARTS: &[(&str, &str)] = &[
+    (
+        "four segments",
+        "zone 1
 segment 1 1 100000
 segment 2 1 300000
 segment 3 1 300000
@@ -28,9 +29,11 @@ portal 1-
 joint 1+ 2-
 joint 2+ 3-
 joint 3+ 4-
-portal 4+
-: short segments
-zone 1
+portal 4+",
+    ),
+    (
+        "short segments",
+        "zone 1
 segment 1 1 1000
 segment 2 1 1000
 segment 3 1 1000
@@ -83,43 +86,58 @@ joint 22+ 23-
 joint 23+ 24-
 joint 24+ 25-
 joint 25+ 26-
-portal 26+
-: silent after 10
-silent 10
-: asks for entry
-script
+portal 26+",
+    ),
+    ("silent after 10", "silent 10"),
+    (
+        "asks for entry",
+        "script
 train 7 60000 2000 20000 eq
-entry 7 1+
-: comes on
-take 1 0 1
+entry 7 1+",
+    ),
+    (
+        "comes on",
+        "take 1 0 1
 take 0 1 1
 enter 7
-take 1 0 2
-: goes on
-ask 7 1 2+ 3+ 300000
-take 1 0 3
-: moves
-take 0 1 2
-step 7000 7 140000
-: follows
-train 8 60000 2000 20000 eq
+take 1 0 2",
+    ),
+    (
+        "goes on",
+        "ask 7 1 2+ 3+ 300000
+take 1 0 3",
+    ),
+    (
+        "moves",
+        "take 0 1 2
+step 7000 7 140000",
+    ),
+    (
+        "follows",
+        "train 8 60000 2000 20000 eq
 entry 8 1+
 deliver 1
 deliver 0
 enter 8
-deliver 1
-: slow train
-script
+deliver 1",
+    ),
+    (
+        "slow train",
+        "script
 train 7 60000 2000 333 eq
-entry 7 1+
-: trains
-script
+entry 7 1+",
+    ),
+    (
+        "trains",
+        "script
 train 7 60000 2000 20000 eq
 train 8 60000 2000 20000 eq
 train 9 60000 2000 20000 eq
-train 10 100001 2000 20000 eq
-: both on
-entry 7 1+
+train 10 100001 2000 20000 eq",
+    ),
+    (
+        "both on",
+        "entry 7 1+
 take 1 0 1
 entry 8 4-
 take 1 0 2
@@ -128,7 +146,9 @@ take 0 1 2
 enter 7
 enter 8
 take 1 0 3
-take 1 0 4";
+take 1 0 4",
+    ),
+];
 
 /// What a run and other words give.
 const WORKED: &str = "

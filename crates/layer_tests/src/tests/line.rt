@@ -5,7 +5,7 @@ ghost use Rattle.definitions.specs.Rules.{is_line};
 use arrayvec::ArrayVec;
 use line_map::{End, Item, Line, LineBuilder, LineFault};
 use std::alloc::Global;
-use track_points::{Dir, DirSeg, Path, SegId};
+use track_points::{Dir, DirSeg, Path, SegId, ZoneId};
 
 fn plus(segment: u64) -> End {
     End {
@@ -67,4 +67,34 @@ pub fn path(steps: &[DirSeg], from: u32, to: u32) -> Path {
         from,
         to,
     }
+}
+
+/// What is declared of a segment: its length and its zone.
+fn declared(line: &Line, seg: u16) -> Option<(u32, ZoneId)> {
+    let s = SegId(seg);
+    if line.has_segment(s) {
+        Some((line.seg_len(s), line.zone_of(s)))
+    } else {
+        None
+    }
+}
+
+#[test]
+fn a_copy_tells_what_the_line_tells(rt: HostRuntime) {
+    let Ok(line) = line_of(rt.alloc()) else {
+        panic!(rt; "no line");
+    };
+    let Ok(copy) = line.copy(rt.alloc()) else {
+        panic!(rt; "want of memory");
+    };
+    assert_eq!(rt; declared(&copy, 1), declared(&line, 1));
+    assert_eq!(rt; declared(&copy, 2), Some((500, ZoneId(3))));
+    assert_eq!(rt; declared(&copy, 3), Some((700, ZoneId(3))));
+    assert_eq!(rt; declared(&copy, 4), None);
+    assert_eq!(rt; (copy.zone(0), copy.zone(1)), (Some(ZoneId(3)), None));
+    assert_eq!(rt; (copy.segment(2), copy.segment(3)), (Some(SegId(3)), None));
+    assert_eq!(rt; (copy.silent(), line.silent()), (5000, 5000));
+    assert!(rt; copy.follows(up(2), down(3)));
+    assert!(rt; !copy.follows(up(1), down(3)));
+    assert!(rt; copy.begins_at_portal(up(1)));
 }

@@ -2,7 +2,7 @@ use Rattle.std.proofs.Common.{◌∙◌, refl, ap, sym, arith}
 use Rattle.byte_feed.specs.Feed.{feds, feds_text}
 use Rattle.run_engine.specs.Feeding.{feed_shown}
 use Rattle.run_engine.proofs.Doing.{told_ok, told_front, told_cause}
-use Rattle.run_engine.proofs.Running.{midway_start, midway_more, midway_fails, midway_cut, midway_end, midway_over, counts}
+use Rattle.run_engine.proofs.Running.{midway_start, midway_more, midway_fails, midway_stays, midway_cut, midway_end, midway_over, not_stopped, counts}
 use Rattle.run_engine.proofs.pump.pump.Goals as goal
 
 pub returns-then-is_over-clause-pumped : goal.returns-then-is_over-clause-pumped
@@ -30,6 +30,12 @@ returns-in-Err-clause-causes g c = rw c.cut_by.ensures
 
 pub returns-in-Failed-clause-pumped : goal.returns-in-Failed-clause-pumped
 returns-in-Failed-clause-pumped g c = midway_fails _ _ _ _ _ _ _ _ _ refl c.loop-turn.invariant.midway
+
+pub returns-in-Failed-clause-stop : goal.returns-in-Failed-clause-stop
+returns-in-Failed-clause-stop g c = midway_stays _ _ _ _ _ _ _ _ c.in-Failed.ensures.bytes c.loop-turn.invariant.midway
+
+pub returns-in-Err-clause-stop : goal.returns-in-Err-clause-stop
+returns-in-Err-clause-stop g c = rw c.cut_by.ensures (not_stopped _ _)
 
 pub loop-turn-preserved : goal.loop-turn-preserved
 loop-turn-preserved g c =

@@ -1,6 +1,6 @@
 use Rattle.std.proofs.Common.{◌∙◌, refl, sym}
 use Rattle.run_engine.proofs.Doing.{told_ok, told_front, told_cause}
-use Rattle.run_engine.proofs.Running.{run_whole, run_front, run_cut, cut_causes, end_causes}
+use Rattle.run_engine.proofs.Running.{run_whole, run_front, run_cut, run_stopped, fault_uncut, end_uncut, cut_causes, end_causes}
 use Rattle.run_engine.proofs.Going.{done_only}
 use Rattle.run_engine.proofs.pump.run_from.Goals as goal
 
@@ -28,3 +28,12 @@ returns-clause-ran g c = rw c.cut_status-in-Err.ensures
 
 pub returns-in-Ok-end-clause-ended : goal.returns-in-Ok-end-clause-ended
 returns-in-Ok-end-clause-ended g c h = c.in-Ok.ensures.ended (done_only _ _ c.in-Ok.ensures.within.going c.in-Ok-end.ensures.ending (sym c.status.ensures ∙ h))
+
+pub returns-in-Ok-end-clause-read : goal.returns-in-Ok-end-clause-read
+returns-in-Ok-end-clause-read g c = rw c.status.ensures (end_uncut _ _ _ _ _)
+
+pub returns-in-Ok-clause-read : goal.returns-in-Ok-clause-read
+returns-in-Ok-clause-read g c = rw (c.cut_status.ensures, c.cut_by.ensures) (fault_uncut _ _ _ _ _)
+
+pub returns-clause-read : goal.returns-clause-read
+returns-clause-read g c = rw c.cut_status-in-Err.ensures (run_stopped _ _ _ _ _ _ _ c.requires.start c.in-Err.ensures.stop)

@@ -1,8 +1,7 @@
-use Rattle.std.proofs.Common.{rules, true, ◌≡◌, ◌∙◌, ◌&&◌, map}
+use Rattle.std.proofs.Common.{rules, true, ◌≡◌, ◌∙◌, ◌&&◌}
 use Rattle.track_points.specs.Points.{end_place}
 use Rattle.definitions.specs.Track.{seg_len}
 use Rattle.definitions.specs.Limit.{asked_way, continues}
-use Rattle.zone_reach.specs.Train.{plain_train}
 use Rattle.zone_reach.proofs.Reaches.{end_within, reach_is, bars_all}
 use Rattle.zone_reach.proofs.reach.reach_from.Goals as goal
 
@@ -21,7 +20,7 @@ returns-clause-reach c =
     let r = rw (w, l, p) at c.reach_on.ensures.reach in
     let t : (c.args.ready && continues c.args.line.now c.args.path.now.steps.items c.args.asked.now) ≡ true = search rules in
     let n = c.if-silent.false in
-    rw (t, n) (r ∙ reach_is c.args.line.now c.args.zone (map plain_train c.args.trains.now) c.args.train.0 (asked_way c.args.path.now.steps.items c.args.asked.now)
+    rw (t, n) (r ∙ reach_is c.args.line.now c.args.zone c.args.trains.now c.args.train.0 (asked_way c.args.path.now.steps.items c.args.asked.now)
     (end_place (seg_len c.args.line.now) c.args.path.now) c.args.to)
 
 pub returns-then-not-continues-clause-fits : goal.returns-then-not-continues-clause-fits

@@ -8,4 +8,4 @@ returns-clause-way c =
     let s = rw (c.further-more.ensures.steps, c.as_slice.ensures.value, c.path.ensures.path) at c.extend_by.ensures.way in
     let n = rw s at c.set_end.ensures.ended in
     let e = c.end.ensures in let h = c.requires.ends in
-    longer_is (seg_len c.args.line.now) c.args.way.now c.set_end.new.self c.args.asked.now c.args.distance _ (omega arith) n c.requires.reaches.within
+    longer_is (seg_len c.args.line.now) c.args.way.now c.set_end.new.self c.args.asked.now c.args.distance _ (omega arith) n c.requires.reaches.within c.set_end.ensures.end

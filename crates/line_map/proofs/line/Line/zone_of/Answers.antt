@@ -5,8 +5,7 @@ use Rattle.line_map.proofs.line.Line.zone_of.Goals as goal
 
 pub overflow_cast-result : goal.overflow_cast-result
 overflow_cast-result c =
-    let e = rw c.as_slice.ensures.value at c.zone_at.ensures in
-    let line = c.self.inside.items.items in
-    let f = segment_ok line c.self.invariant c.args.s.0 (rw (sym c.self.view_is) at c.requires) in
-    let z = zone_ok line c.self.invariant (zone_of line c.args.s.0) f.2 in
-    let most = z.1 in rw e (omega arith)
+    let line = c.self.inside.index in
+    let f = segment_ok line c.self.invariant.valid c.args.s.0 (rw (sym c.self.view_is) at c.requires) in
+    let z = zone_ok line c.self.invariant.valid (zone_of line c.args.s.0) f.2 in
+    let most = z.1 in rw c.zone_of.ensures (omega arith)

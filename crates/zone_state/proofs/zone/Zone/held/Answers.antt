@@ -11,4 +11,4 @@ pub returns-in-Some : goal.returns-in-Some
 returns-in-Some c =
     let h = rw c.as_slice.ensures.value at (sym c.in-Some.ensures.first) in
     let l = rw c.as_slice.ensures.value at c.in-Some.ensures.within in
-    rw (← c.self.view_is) (λ line f. held_some line c.self.inside.id c.self.inside.clock c.args.train.0 c.self.inside.trains.items c.in-Some.i c.index.result.now c.copy.result h l c.index.ensures c.copy.ensures f)
+    rw (← c.self.view_is) (λ line f. held_some line c.self.inside.id c.args.train.0 c.self.inside.trains.items c.self.inside.holds.items c.in-Some.i c.copy.result c.index.result.now h l c.copy.ensures c.index.ensures f.fits.holds)

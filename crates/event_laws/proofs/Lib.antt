@@ -1,0 +1,13 @@
+pub mod Notions
+pub mod Controls
+pub mod Known_trains
+pub mod Issued
+pub mod Admitted
+pub mod Stays
+pub mod Still
+pub mod Moments
+pub mod Entries
+pub mod Last_issued
+pub mod Answers
+pub mod Does
+pub mod Grants

@@ -1,0 +1,4 @@
+pub mod Items
+mod Noting
+mod Slots
+pub mod Uses

@@ -1,0 +1,29 @@
+use Rattle.std.proofs.Common.{refl, sym, ap, ◌∙◌}
+use Rattle.plain_state.specs.declared.Controlled.{Controlled}
+use Rattle.plain_state.specs.Zone.{answered_by}
+use Rattle.zone_state.proofs.Found.{changed_is, kept, fit_set, fit_found, fit_counted}
+use Rattle.zone_state.proofs.Holds.{holds_stay}
+use Rattle.zone_state.proofs.zone.Zone.answer.Goals as goal
+
+pub returns-in-Some-clause-next : goal.returns-in-Some-clause-next
+returns-in-Some-clause-next c =
+    let h = rw c.as_slice.ensures.value at (sym c.in-Some.ensures.first) in
+    let n = changed_is c.args.train.0 (answered_by c.args.number) c.self.inside.trains.items c.in-Some.i c.index_mut.result.now c.count_answer.new.x h c.index_mut.ensures.value c.count_answer.ensures in
+    rw (← c.self.view_is, n) refl
+
+pub returns-in-Some-clause-fits : goal.returns-in-Some-clause-fits
+returns-in-Some-clause-fits c = λ line f.
+    let g = rw (sym c.self.view_is) at f in
+    let l = rw c.as_slice.ensures.value at c.in-Some.ensures.within in
+    let x = fit_found line c.self.inside.clock c.self.inside.trains.items c.in-Some.i c.index_mut.result.now l c.index_mut.ensures.value g.trains in
+    let w = ap (λ (y : Controlled). y.way) (c.count_answer.ensures ∙ ap (answered_by c.args.number) c.index_mut.ensures.value) in
+    record {
+      trains = fit_set line c.self.inside.clock c.self.inside.trains.items c.in-Some.i c.count_answer.new.x g.trains
+          (rw c.count_answer.ensures (fit_counted line c.self.inside.clock c.args.number c.index_mut.result.now x));
+      holds = holds_stay line c.self.inside.id c.self.inside.trains.items c.self.inside.holds.items c.in-Some.i c.index_mut.result.now c.count_answer.new.x w g.holds;
+    }
+
+pub returns-in_default-clause-next : goal.returns-in_default-clause-next
+returns-in_default-clause-next c =
+    let h = rw c.as_slice.ensures.value at (sym c.in_default.ensures.first) in
+    rw (← c.self.view_is, kept c.args.train.0 (answered_by c.args.number) c.self.inside.trains.items h) refl

@@ -1,0 +1,19 @@
+use Rattle.std.proofs.Common.{length, refl, sym, ◌≡◌, ◌∙◌, map}
+use Rattle.plain_state.specs.Zone.{grown_train}
+use Rattle.zone_state.proofs.Timed.{all_grown_fit, none_passes}
+use Rattle.zone_state.proofs.Found.{written}
+use Rattle.zone_state.proofs.Holds.{holds_mapped}
+use Rattle.zone_state.proofs.zone.Zone.pass.Goals as goal
+
+pub returns-then-self-time-clause-fits : goal.returns-then-self-time-clause-fits
+returns-then-self-time-clause-fits c = λ line f.
+    let g = rw (sym c.self.view_is) at f in
+    let e = rw c.as_mut_slice.ensures.value at c.grow_each.ensures in
+    let w = written c.self.inside.trains.len c.grow_each.new.trains c.self.inside.trains.items (c.grow_each.auto.trains ∙ c.as_mut_slice.ensures.len) in
+    record {
+      trains = rw (w, e) (all_grown_fit line c.self.inside.clock c.args.time c.self.inside.trains.items g.trains);
+      holds = rw (w, e) (holds_mapped line c.self.inside.id (grown_train c.args.time) c.self.inside.trains.items c.self.inside.holds.items (λ x. refl) g.holds);
+    }
+
+pub returns-else-self-time-clause-next : goal.returns-else-self-time-clause-next
+returns-else-self-time-clause-next c = none_passes c.args.time c.args.self.now (rw (← c.self.view_is) c.if-self-time.false) c.requires

@@ -1,0 +1,92 @@
+use Rattle.std.proofs.Common.{◌≡◌, refl, sym, w32, w64, rules}
+use Rattle.std.proofs.lemmas.Int.{to_z-of_z}
+use Rattle.definitions.specs.Track.{seg_len}
+use Rattle.plain_state.specs.Zone.{reported_by}
+use Rattle.zone_state.specs.Zone.{AllFit}
+use Rattle.zone_state.proofs.Found.{found_is, absent, changed_is, read_same, fit_found, fit_set, fit_own, fit_again}
+use Rattle.zone_state.proofs.Reported.{marked, not_marked}
+use Rattle.zone_state.proofs.Holds.{holds_set}
+use Rattle.zone_state.proofs.zone.Zone.report.Goals as goal
+
+pub use_report-hold-requires-clause-fits : goal.use_report-hold-requires-clause-fits
+use_report-hold-requires-clause-fits c =
+    let l = rw c.as_slice.ensures.value at c.in-Some.ensures.within in
+    let a : AllFit c.args.line.now c.self.inside.clock c.self.inside.trains.items = rw (sym c.self.view_is) at c.requires.fits.trains in
+    fit_own c.args.line.now c.self.inside.clock _ (fit_found c.args.line.now c.self.inside.clock c.self.inside.trains.items c.in-Some.i c.index_mut.result.now l c.index_mut.ensures.value a)
+
+pub use_report-hold-requires-clause-earlier : goal.use_report-hold-requires-clause-earlier
+use_report-hold-requires-clause-earlier c =
+    let l = rw c.as_slice.ensures.value at c.in-Some.ensures.within in
+    let a : AllFit c.args.line.now c.self.inside.clock c.self.inside.trains.items = rw (sym c.self.view_is) at c.requires.fits.trains in
+    let t = (fit_found c.args.line.now c.self.inside.clock c.self.inside.trains.items c.in-Some.i c.index_mut.result.now l c.index_mut.ensures.value a).at in
+    rw t (rw (sym c.self.view_is) at c.requires.earlier)
+
+pub use_report-hold-requires-clause-place : goal.use_report-hold-requires-clause-place
+use_report-hold-requires-clause-place c =
+    let l = rw c.as_slice.ensures.value at c.in-Some.ensures.within in
+    let o = to_z-of_z w32 c.args.report.offset (search rules) in
+    let s = read_same c.self.inside.trains.items c.in-Some.i c.index_mut.result.now c.index.result.now l c.index_mut.ensures.value c.index.ensures in
+    let p = to_z-of_z w64 c.in-Some-place_of.place (search rules) in
+    rw (s, p) (rw o at (sym c.in-Some-place_of.ensures))
+
+pub returns-in-Some-place_of-clause-gives : goal.returns-in-Some-place_of-clause-gives
+returns-in-Some-place_of-clause-gives c =
+    let h = rw c.as_slice.ensures.value at (sym c.in-Some.ensures.first) in
+    let o = to_z-of_z w32 c.args.report.offset (search rules) in
+    let f = found_is c.args.train.0 c.self.inside.trains.items c.in-Some.i c.index_mut.result.now h c.index_mut.ensures.value in
+    let l = rw c.as_slice.ensures.value at c.in-Some.ensures.within in
+    let s = read_same c.self.inside.trains.items c.in-Some.i c.index_mut.result.now c.index.result.now l c.index_mut.ensures.value c.index.ensures in
+    let m = (marked (seg_len c.args.line.now) c.index.result.now.way c.args.report.mark c.args.report.offset c.in-Some-place_of.place (rw o at (sym c.in-Some-place_of.ensures))).0 in
+    let k = rw (sym s) at m in
+    rw (← c.self.view_is, f, k) c.use_report-hold.ensures.gives
+
+pub returns-in-Some-place_of-clause-next : goal.returns-in-Some-place_of-clause-next
+returns-in-Some-place_of-clause-next c =
+    let h = rw c.as_slice.ensures.value at (sym c.in-Some.ensures.first) in
+    let o = to_z-of_z w32 c.args.report.offset (search rules) in
+    let f = found_is c.args.train.0 c.self.inside.trains.items c.in-Some.i c.index_mut.result.now h c.index_mut.ensures.value in
+    let l = rw c.as_slice.ensures.value at c.in-Some.ensures.within in
+    let s = read_same c.self.inside.trains.items c.in-Some.i c.index_mut.result.now c.index.result.now l c.index_mut.ensures.value c.index.ensures in
+    let m = (marked (seg_len c.args.line.now) c.index.result.now.way c.args.report.mark c.args.report.offset c.in-Some-place_of.place (rw o at (sym c.in-Some-place_of.ensures))).0 in
+    let k = rw (sym s) at m in
+    let e = changed_is c.args.train.0 (reported_by (seg_len c.args.line.now) c.args.report.time c.args.report.mark c.args.report.offset c.args.report.integrity) c.self.inside.trains.items c.in-Some.i c.index_mut.result.now c.use_report-hold.new.x h c.index_mut.ensures.value c.use_report-hold.ensures.next in
+    rw (← c.self.view_is, f, k, e) refl
+
+pub returns-in-Some-place_of-clause-fits : goal.returns-in-Some-place_of-clause-fits
+returns-in-Some-place_of-clause-fits c =
+    let g = rw (sym c.self.view_is) at c.requires.fits in
+    let l = rw c.as_slice.ensures.value at c.in-Some.ensures.within in
+    let x = fit_found c.args.line.now c.self.inside.clock c.self.inside.trains.items c.in-Some.i c.index_mut.result.now l c.index_mut.ensures.value g.trains in
+    record {
+      trains = fit_set c.args.line.now c.self.inside.clock c.self.inside.trains.items c.in-Some.i c.use_report-hold.new.x g.trains
+          (fit_again c.args.line.now c.self.inside.clock c.index_mut.result.now c.use_report-hold.new.x x c.use_report-hold.ensures.fits);
+      holds = holds_set c.args.line.now c.self.inside.id c.self.inside.trains.items c.self.inside.holds.items c.in-Some.i c.use_report-hold.new.x c.use_report-hold.result g.holds c.use_report-hold.ensures.hold;
+    }
+
+pub returns-in_default-place_of-clause-gives : goal.returns-in_default-place_of-clause-gives
+returns-in_default-place_of-clause-gives c =
+    let h = rw c.as_slice.ensures.value at (sym c.in-Some.ensures.first) in
+    let o = to_z-of_z w32 c.args.report.offset (search rules) in
+    let f = found_is c.args.train.0 c.self.inside.trains.items c.in-Some.i c.index.result.now h c.index.ensures in
+    let n = not_marked (seg_len c.args.line.now) c.index.result.now.way c.args.report.mark c.args.report.offset (rw o at (sym c.in_default-place_of.ensures)) in
+    rw (← c.self.view_is, f, n) c.requires.empty
+
+pub returns-in_default-place_of-clause-next : goal.returns-in_default-place_of-clause-next
+returns-in_default-place_of-clause-next c =
+    let h = rw c.as_slice.ensures.value at (sym c.in-Some.ensures.first) in
+    let o = to_z-of_z w32 c.args.report.offset (search rules) in
+    let f = found_is c.args.train.0 c.self.inside.trains.items c.in-Some.i c.index.result.now h c.index.ensures in
+    let n = not_marked (seg_len c.args.line.now) c.index.result.now.way c.args.report.mark c.args.report.offset (rw o at (sym c.in_default-place_of.ensures)) in
+    rw (← c.self.view_is, f, n) refl
+
+pub returns-in_default-clause-gives : goal.returns-in_default-clause-gives
+returns-in_default-clause-gives c =
+    let h = rw c.as_slice.ensures.value at (sym c.in_default.ensures.first) in
+    let f = absent c.args.train.0 c.self.inside.trains.items h in
+    rw (← c.self.view_is, f) c.requires.empty
+
+pub returns-in_default-clause-next : goal.returns-in_default-clause-next
+returns-in_default-clause-next c =
+    let h = rw c.as_slice.ensures.value at (sym c.in_default.ensures.first) in
+    let f = absent c.args.train.0 c.self.inside.trains.items h in
+    rw (← c.self.view_is, f) refl
