@@ -2,13 +2,13 @@
 use Rattle.std.proofs.Common.{◌≡◌, ℕ, ◌≤◌, List, Option, Some, true, refl, sym, ◌∙◌, ap, subst, arith}
 use Rattle.std.proofs.lemmas.Bool.Decides.{nat_tests}
 use Rattle.std.specs.Prelude.{nat_eq}
+use Rattle.list_laws.proofs.Tests.{by_test}
 use Rattle.track_points.specs.declared.ids.DirSeg.{DirSeg}
 use Rattle.track_points.specs.Points.{Lengths}
-use Rattle.track_points.proofs.Some.{by_test}
 use Rattle.definitions.specs.World.{Authority, authority_end}
 use Rattle.definitions.specs.Farther.{end_or_0}
 use Rattle.definitions.specs.Account.{Account, longest_of, end_of, with_at}
-use Rattle.sound_laws.proofs.Sound.{SomeIs}
+use Rattle.invariant_laws.proofs.Invariant.{SomeIs}
 use Rattle.front_laws.proofs.Route_goes_on.{some_weaker}
 use Rattle.front_laws.proofs.Unshrunk.{Counts}
 use Rattle.authority_laws.proofs.Farthest.{farthest_last}

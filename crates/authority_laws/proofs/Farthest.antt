@@ -2,13 +2,13 @@
 use Rattle.std.proofs.Common.{◌≡◌, ℕ, zero, suc, ◌+◌, ◌-◌, ◌≤◌, List, Option, Some, None, false, refl, ◌∙◌, ap, arith}
 use Rattle.std.proofs.lemmas.Bool.Decides.{nat_tests}
 use Rattle.std.specs.Prelude.{nat_lt}
+use Rattle.list_laws.proofs.Tests.{by_test}
 use Rattle.track_points.specs.declared.ids.DirSeg.{DirSeg}
 use Rattle.track_points.specs.Points.{Lengths}
-use Rattle.track_points.proofs.Some.{by_test}
 use Rattle.definitions.specs.World.{Authority, authority_end}
 use Rattle.definitions.specs.Farther.{farther}
 use Rattle.definitions.specs.Account.{farthest}
-use Rattle.sound_laws.proofs.Sound.{SomeIs}
+use Rattle.invariant_laws.proofs.Invariant.{SomeIs}
 
 module _ (Q : Authority → Type 0) (len : Lengths) (steps : List DirSeg) where
   farther_has : (a b : Option Authority) → SomeIs Q a → SomeIs Q b → SomeIs Q (farther len steps a b)

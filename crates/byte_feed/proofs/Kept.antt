@@ -3,10 +3,10 @@ use Rattle.std.proofs.Common.{◌≡◌, ℕ, ◌≤◌, ◌<◌, List, [], ◌�
 use Rattle.std.proofs.lemmas.List.{take_all, take-append-le, length-take}
 use Rattle.std.proofs.lemmas.Bool.{ltb-true, ltb-false, lt-ltb}
 use Rattle.std.specs.Prelude.{nat_lt}
+use Rattle.list_laws.proofs.Tests.{by_test}
 use Rattle.definitions.specs.Grammar.{line_of, is_passed}
 use Rattle.definitions.specs.Trace.{Reading, text_read}
 use Rattle.byte_feed.specs.Feed.{kept_on}
-use Rattle.byte_feed.proofs.Lines.{by_test}
 
 passed_front : (text : List ℕ) → is_passed (take 4097 text) ≡ is_passed text
 passed_front [] = refl

@@ -1,24 +1,18 @@
 -- Text lines, from their front.
-use Rattle.std.proofs.Common.{◌≡◌, ℕ, List, [], ◌∷◌, ◌++◌, Bool, true, false, refl, ◌||◌}
+use Rattle.std.proofs.Common.{◌≡◌, ℕ, List, [], ◌∷◌, ◌++◌, Bool, false, refl, ◌||◌}
 use Rattle.std.specs.Prelude.{nat_eq}
+use Rattle.std.proofs.lemmas.Bool.{or_parts}
+use Rattle.list_laws.proofs.Tests.{by_test}
 use Rattle.definitions.specs.Lines.{text_lines, onto_first, text_of}
-
-pub by_test : {P : Type 0} (b : Bool) → (b ≡ true → P) → (b ≡ false → P) → P
-by_test true f g = f refl
-by_test false f g = g refl
 
 -- an LF is among the bytes
 unfoldable pub has_lf : List ℕ → Bool
 has_lf [] = false
 has_lf (b ∷ bytes) = nat_eq b 10 || has_lf bytes
 
-pub neither : (x y : Bool) → (x || y) ≡ false → (x ≡ false) × (y ≡ false)
-neither true y h = absurd cc
-neither false y h = (refl, h)
-
 pub no_lf_here : (b : ℕ) (bytes : List ℕ) → has_lf (b ∷ bytes) ≡ false → (nat_eq b 10 ≡ false) × (has_lf bytes ≡ false)
 unfolding has_lf
-no_lf_here b bytes h = neither (nat_eq b 10) (has_lf bytes) h
+no_lf_here b bytes h = or_parts (nat_eq b 10) (has_lf bytes) h
 
 pub no_lf_more : (part : List ℕ) (b : ℕ) → has_lf part ≡ false → nat_eq b 10 ≡ false → has_lf (part ++ b ∷ []) ≡ false
 unfolding has_lf

@@ -2,11 +2,11 @@
 use Rattle.std.proofs.Common.{◌≡◌, ℕ, ◌+◌, ◌<◌, List, [], ◌∷◌, ◌++◌, length, Bool, true, false, refl, sym, ◌∙◌, ap, append_assoc, append-nil, take, drop, get_or, arith}
 use Rattle.std.proofs.lemmas.List.{take_more, take-append-drop}
 use Rattle.std.specs.Prelude.{nat_eq, nat_lt}
+use Rattle.list_laws.proofs.Tests.{by_test}
 use Rattle.definitions.specs.declared.document.Ending.TheVariants as ends
 use Rattle.definitions.specs.Endings.{outcomes_text}
 use Rattle.definitions.specs.Trace.{Over, Reading, Given, is_over, input_limit, text_read, behind}
 use Rattle.byte_feed.specs.Feed.{Feed, line_fed, fed, fed_gives, feds, feds_text, total}
-use Rattle.byte_feed.proofs.Lines.{by_test}
 use Rattle.byte_feed.proofs.Streams.{fed_over, fed_stays, fed_long, fed_lf, fed_more, too_long}
 
 pub feds_append : (xs : List ℕ) (f : Feed) (ys : List ℕ) → feds f (xs ++ ys) ≡ feds (feds f xs) ys

@@ -3,12 +3,13 @@ use Rattle.std.proofs.Common.{◌≡◌, ℕ, ◌+◌, List, [], ◌∷◌, ◌+
 use Rattle.std.proofs.lemmas.Bool.Decides.{nat_tests}
 use Rattle.std.proofs.lemmas.Bool.{ltb-true, lt-ltb, eqb-true}
 use Rattle.std.specs.Prelude.{nat_eq, nat_lt}
+use Rattle.list_laws.proofs.Tests.{by_test}
 use Rattle.definitions.specs.Lines.{text_lines, text_of}
 use Rattle.definitions.specs.declared.document.Ending.TheVariants as ends
 use Rattle.definitions.specs.Endings.{outcomes_text}
 use Rattle.definitions.specs.Trace.{Over, Reading, Step, Given, is_over, start, input_limit, text_read, line_read, stage_ends, behind, ended, given, trace}
 use Rattle.byte_feed.specs.Feed.{Feed, opened, line_fed, kept_on, fed, closed, fed_gives}
-use Rattle.byte_feed.proofs.Lines.{by_test, has_lf, no_lf_more, line_whole, line_last, text_whole, text_last, line_begins}
+use Rattle.byte_feed.proofs.Lines.{has_lf, no_lf_more, line_whole, line_last, text_whole, text_last, line_begins}
 use Rattle.byte_feed.proofs.Kept.{text_read_front, kept_more}
 
 pub over_stays : (r : Reading) (size : ℕ) (text : List ℕ) → is_over r.stage ≡ true → text_read r size text ≡ record { next = r; lines = [] }

@@ -1,13 +1,15 @@
 -- What was written so far is what the whole text lines so far give.
-use Rattle.std.proofs.Common.{◌≡◌, ℕ, ◌+◌, List, [], ◌∷◌, ◌++◌, length, Bool, true, false, refl, sym, ◌∙◌, ap, append_assoc, length-append, append-nil, arith, ◌||◌}
+use Rattle.std.proofs.Common.{◌≡◌, ℕ, ◌+◌, List, [], ◌∷◌, ◌++◌, length, true, false, refl, sym, ◌∙◌, ap, append_assoc, length-append, append-nil, arith, ◌||◌}
+use Rattle.std.proofs.Math.Bool.{or-true}
 use Rattle.std.proofs.lemmas.Bool.{ltb-true, lt-ltb, eqb-true}
 use Rattle.std.specs.Prelude.{nat_eq, nat_lt}
+use Rattle.list_laws.proofs.Tests.{by_test}
 use Rattle.definitions.specs.declared.document.Ending.TheVariants as ends
 use Rattle.definitions.specs.Lines.{text_lines, text_of}
 use Rattle.definitions.specs.Endings.{outcomes_text}
 use Rattle.definitions.specs.Trace.{Over, Reading, Step, is_over, start, input_limit, text_read, line_read}
 use Rattle.byte_feed.specs.Feed.{Feed, opened, line_fed, kept_on, fed, feds_text, ends_lf, whole_lines, lines_text}
-use Rattle.byte_feed.proofs.Lines.{by_test, has_lf, no_lf_more, line_whole, line_last, line_begins}
+use Rattle.byte_feed.proofs.Lines.{has_lf, no_lf_more, line_whole, line_last, line_begins}
 use Rattle.byte_feed.proofs.Kept.{kept_more}
 use Rattle.byte_feed.proofs.Streams.{Keeps, over_stays, too_long, ends_line, no_lf_none, length_snoc, fed_stays, fed_long, fed_lf, fed_more}
 
@@ -19,11 +21,7 @@ same_lf (x ∷ xs) = ap (λ b. nat_eq x 10 || b) (same_lf xs)
 lf_there : (part : List ℕ) → ends_lf (part ++ 10 ∷ []) ≡ true
 unfolding ends_lf
 lf_there [] = refl
-lf_there (x ∷ part) = rw (lf_there part) (or_true (nat_eq x 10))
-  where
-    or_true : (b : Bool) → (b || true) ≡ true
-    or_true true = refl
-    or_true false = refl
+lf_there (x ∷ part) = rw (lf_there part) (or-true (nat_eq x 10))
 
 over_text : (lines : List (List ℕ)) (r : Reading) → is_over r.stage ≡ true → lines_text r lines ≡ []
 unfolding lines_text

@@ -36,7 +36,7 @@ pub fn cbtc_top<S: Source, K: Sink, G: Gate + Sync>(
     ensures read { MatchBool (is_run (map string_bytes words.now)) (ReadCut result (S.left src.old) (S.left src.new) (K.written sink.old) (K.written sink.new)) ⊤ }
     // Done is answered only where the source's bytes were read to their end.
     ensures ended { result ≡ Status.Done → AtEnd (S.left src.new) }
-    // A fault is answered only where that object's count rose in this call.
+    // A fault is answered only where that object's count rose in this call. Neither count falls.
     ensures causes { Causes result (S.faults src.old) (S.faults src.new) (K.faults sink.old) (K.faults sink.new) }
     // A document of built forms that keeps to the rules and premises is done, with exactly its story, where no fault
     // was counted; or memory was wanting.

@@ -1,4 +1,4 @@
--- What the messages of a train's controllers come to: its numbers, what counts of them, and where its front may be. What counts
+-- What the messages of a train's controllers amount to: its numbers, what counts of them, and where its front may be. What counts
 -- hangs on the least front, and the fronts end with the longest authority, so all of it is one value.
 use Rattle.std.specs.Prelude.{ℕ, zero, suc, ◌+◌, ◌-◌, List, if◌then◌else◌, Bool, false, ◌&&◌, not, nat_eq, nat_lt, nat_le, max, Option, Some, None}
 use Rattle.track_points.specs.declared.ids.DirSeg.{DirSeg}

@@ -1,4 +1,4 @@
--- What one entry of a story makes of an account, and the account of a story.
+-- What one transition of a story makes of an account, and the account of a story.
 use Rattle.std.specs.Prelude.{ℕ, ◌-◌, List, [], ◌∷◌, if◌then◌else◌, Bool, true, false, ◌&&◌, nat_eq, nat_le, Option, Some, None, ℤ, pos, ◌+ℤ◌, take}
 use Rattle.track_points.specs.declared.ids.DirSeg.{DirSeg}
 use Rattle.track_points.specs.Points.{Lengths, total}
@@ -6,7 +6,7 @@ use Rattle.envelope.specs.Fronts.{farthest_move, grown, kept}
 use Rattle.definitions.specs.declared.message.Msg.{Msg}
 use Rattle.definitions.specs.declared.message.Msg.TheVariants as msg
 use Rattle.definitions.specs.Track.{Line, seg_len}
-use Rattle.definitions.specs.Story.{Entry as Made, Story}
+use Rattle.definitions.specs.Story.{Transition, Story}
 use Rattle.definitions.specs.World.{Facts, journey}
 use Rattle.definitions.specs.Control.{grants_entry, controls, asked_facts, known_facts, now_of, now_with}
 use Rattle.definitions.specs.Farther.{route_or_none, on_way}
@@ -40,12 +40,12 @@ by_answer len steps t end v fronts (msg.Answer u time number taken) =
     if nat_eq u.0 t && takes_shrink number taken v then ruled end (λ p. nat_le p (shrink_end len steps v)) fronts else fronts
 by_answer len steps t end v fronts _ = fronts
 
--- the numbers behind a message
+-- the numbers after a message
 abbrev pub counts : ℕ → Msg → Account → Account
 counts t (msg.Answer u time number taken) v = if nat_eq u.0 t then answered number taken v else v
 counts t _ v = v
 
--- the fronts behind a message: they grow, then its rules act
+-- the fronts after a message: they grow, then its rules act
 abbrev pub fronts_heard : Lengths → ℕ → ℕ → Story → List DirSeg → Account → (ℕ → Bool) → Msg → ℕ → Bool
 fronts_heard len z t s steps v fronts m =
     let f = known_facts z t s in
@@ -70,7 +70,7 @@ heard_some len z t s steps v None = v
 heard_some len z t s steps v (Some x) = heard len z t s steps v x.1
 
 -- what a zone took acts before what it issues
-abbrev pub acts : Lengths → ℕ → Made → Story → List DirSeg → Account → Account
+abbrev pub acts : Lengths → ℕ → Transition → Story → List DirSeg → Account → Account
 acts len t e s steps v =
     if grants_entry e.actor t e then with_fronts e.actor (λ p. nat_eq p (asked_facts e.took).long) v
     else if controls e.actor t s then heard_some len e.actor t s steps v e.took

@@ -1,8 +1,9 @@
--- In each history that a document comes to the clock stays below 2^40, and the numbers of authorities below 2^27: 2^26 bytes hold
+-- In each history that a document reaches the clock stays below 2^40, and the numbers of authorities below 2^27: 2^26 bytes hold
 -- at most 2^24 events of a script.
 use Rattle.std.proofs.Common.{◌≡◌, ℕ, ◌+◌, ◌*◌, ◌≤◌, ◌<◌, ◌^◌, List, [], ◌∷◌, length, take, refl, subst, arith}
 use Rattle.std.proofs.lemmas.Bool.Decides.{nat_tests}
 use Rattle.std.specs.Prelude.{nat_eq, nat_lt}
+use Rattle.list_laws.proofs.Tests.{by_test}
 use Rattle.definitions.specs.declared.event.Event.{Event}
 use Rattle.definitions.specs.declared.document.TextLine.{TextLine}
 use Rattle.definitions.specs.declared.document.TextLine.TheVariants as says
@@ -15,12 +16,11 @@ use Rattle.definitions.specs.Steps.{story_of}
 use Rattle.definitions.specs.Trace.{Stage, Items, Script, Over, Reading, start, is_over, input_limit, text_read, line_read, stage_read, second_zone, event_read}
 use Rattle.definitions.specs.Rules.{rule_of, finish_rule}
 use Rattle.document_laws.specs.Throughout.{stands}
-use Rattle.track_points.proofs.Some.{by_test}
 use Rattle.definitions.specs.Control.{last_issued}
 use Rattle.document_laws.proofs.Clocks.{event_long, text_short, clock_stands}
 use Rattle.document_laws.proofs.Few_numbers.{Few, few_stands, few_start}
 
--- a script behind a number of text lines of events
+-- a script after a number of text lines of events
 pub record Paced (bytes : ℕ) (line : Line) (events : List Event) (count : ℕ) : Type 0 where
   pub long : 4 * count ≤ bytes
   pub slow : clock (story_of line events) ≤ 60000 * count
@@ -90,7 +90,7 @@ steady_start = record { bytes = omega arith; stage = tt }
 in_script : (s : Stage) (bytes : ℕ) → Steady bytes s → (line : Line) (events : List Event) (count : ℕ) → s ≡ Script line events count → Paced bytes line events count
 in_script s bytes k line events count e = subst (Steady bytes) e k
 
--- each history that a document comes to
+-- each history that a document reaches
 module _ (bytes : List ℕ) (k : ℕ) (line : Line) (events : List Event) (count : ℕ) (is : (stands start (take k (text_lines bytes))).stage ≡ Script line events count) where
   abbrev reading : SteadyReading (stands start (take k (text_lines bytes)))
   reading = steady_stands (take k (text_lines bytes)) start steady_start

@@ -2,8 +2,10 @@
 use Rattle.std.proofs.Common.{◌≡◌, ℕ, zero, suc, ◌+◌, ◌≤◌, ◌<◌, List, [], ◌∷◌, length, Option, Some, None, Bool, true, refl, ap, ◌∙◌, arith}
 use Rattle.std.proofs.lemmas.Bool.Decides.{nat_tests}
 use Rattle.std.proofs.lemmas.List.Folds.{list_all-append}
-use Rattle.std.specs.Prelude.{nat_eq, nat_lt, codes, ◌&&◌, filter, flat_map}
+use Rattle.std.specs.Prelude.{nat_eq, nat_lt, codes, filter, flat_map}
 use Rattle.std.specs.List.{list_all}
+use Rattle.std.proofs.lemmas.Bool.{and_parts, and_from}
+use Rattle.list_laws.proofs.Tests.{by_test}
 use Rattle.definitions.specs.declared.event.Event.{Event}
 use Rattle.definitions.specs.declared.event.Event.TheVariants.{Step, Deliver}
 use Rattle.definitions.specs.declared.document.TextLine.TheVariants as says
@@ -15,8 +17,6 @@ use Rattle.definitions.specs.World.{elapsed, clock}
 use Rattle.definitions.specs.Premises.{built}
 use Rattle.definitions.specs.Steps.{story_of, takes_from, due, sends_to, actors, deliveries}
 use Rattle.definitions.specs.Trace.{went, stands_for}
-use Rattle.track_points.proofs.Some.{by_test}
-use Rattle.event_laws.proofs.Notions.{both}
 use Rattle.event_laws.proofs.Does.{effect_event}
 
 -- Text lines of fewer than 4 bytes say no event.
@@ -89,7 +89,7 @@ clock_went : (line : Line) (more events : List Event) → list_all stands_still 
 unfolding went
 clock_went line [] events h = refl
 clock_went line (e ∷ more) events h =
-    let k = both (stands_still e) (list_all stands_still more) h in
+    let k = and_parts (stands_still e) (list_all stands_still more) h in
     let still : elapsed e ≡ 0 = grind (arith, nat_tests) in
     let c = clock_more line events e in
     clock_went line more (e ∷ events) k.1 ∙ omega arith
@@ -99,13 +99,10 @@ unfolding takes_from
 takes_still to from number zero = refl
 takes_still to from number (suc n) = takes_still to from (number + 1) n
 
-and_true : (x y : Bool) → x ≡ true → y ≡ true → (x && y) ≡ true
-and_true x y h k = grind arith
-
 due_still : (line : Line) (to : ℕ) (s : Story) (senders : List ℕ) → list_all stands_still (flat_map (due to s) (filter (sends_to line to) senders)) ≡ true
 due_still line to s [] = refl
 due_still line to s (from ∷ senders) = by_test (sends_to line to from)
-    (λ y. rw y (list_all-append stands_still (due to s from) (flat_map (due to s) (filter (sends_to line to) senders)) ∙ and_true _ _ (takes_still to from _ _) (due_still line to s senders)))
+    (λ y. rw y (list_all-append stands_still (due to s from) (flat_map (due to s) (filter (sends_to line to) senders)) ∙ and_from _ _ (takes_still to from _ _) (due_still line to s senders)))
     (λ n. rw n (due_still line to s senders))
 
 -- an event that is built takes at most 60,000 ms

@@ -1,11 +1,11 @@
 -- The takes that a delivery stands for are admitted where they stand: they name messages that were sent.
 use Rattle.std.proofs.Common.{◌≡◌, ℕ, zero, suc, ◌+◌, ◌-◌, ◌≤◌, ◌<◌, List, [], ◌∷◌, length, Bool, true, false, refl, sym, ◌∙◌, ap, arith}
-use Rattle.std.proofs.lemmas.Bool.{eqb-true}
+use Rattle.std.proofs.lemmas.Bool.{eqb-true, and_parts, not-true, and_from, le-leb}
 use Rattle.std.proofs.lemmas.Bool.Decides.{nat_tests}
 use Rattle.std.proofs.lemmas.List.Folds.{list_all-append}
 use Rattle.std.specs.Prelude.{nat_eq, nat_lt, nat_le, ◌&&◌, not, filter, flat_map, Option, Some, None}
 use Rattle.std.specs.List.{list_all}
-use Rattle.track_points.proofs.Some.{by_test}
+use Rattle.list_laws.proofs.Tests.{eq_self, by_test}
 use Rattle.definitions.specs.declared.event.Event.{Event}
 use Rattle.definitions.specs.declared.event.Event.TheVariants.{Take, Deliver}
 use Rattle.definitions.specs.declared.message.Msg.{Msg}
@@ -16,10 +16,6 @@ use Rattle.definitions.specs.Premises.{admits}
 use Rattle.definitions.specs.Steps.{effects, story_of, taking, message, taken_most, takes_from, due, sends_to, actors, deliveries}
 use Rattle.definitions.specs.Safe.{Kept}
 use Rattle.definitions.specs.Trace.{went, stands_for}
-use Rattle.event_laws.proofs.Notions.{both, not_true}
-
-all : (x y : Bool) → x ≡ true → y ≡ true → (x && y) ≡ true
-all x y h k = grind arith
 
 -- each of further events of a history is admitted where it stands
 unfoldable pub AllAdmitted : Line → List Event → List Event → Type 0
@@ -53,29 +49,23 @@ same_more line to from number s t same other h =
 fit_admitted : (line : Line) (to from number : ℕ) (s t : Story) → SameSent to s t → is_actor line to ≡ true → fits line to s (Take to from number) ≡ true → admits line t (Take to from number) ≡ true
 unfolding least
 fit_admitted line to from number s t same act h =
-    let k = both (nat_eq to to) (sends_to line to from && (nat_lt 0 number && nat_le number (length (sent from to s)))) h in
-    let x = both (sends_to line to from) (nat_lt 0 number && nat_le number (length (sent from to s))) k.1 in
-    let y = both (not (nat_eq to from)) (is_actor line from) x.0 in
-    let other = not_true (nat_eq to from) y.0 in
+    let k = and_parts (nat_eq to to) (sends_to line to from && (nat_lt 0 number && nat_le number (length (sent from to s)))) h in
+    let x = and_parts (sends_to line to from) (nat_lt 0 number && nat_le number (length (sent from to s))) k.1 in
+    let y = and_parts (not (nat_eq to from)) (is_actor line from) x.0 in
+    let other = not-true (nat_eq to from) y.0 in
     rw (other, act, y.1, same from other, x.1) refl
 
 pub all_admitted : (line : Line) (to : ℕ) (more : List Event) (s : Story) (before : List Event) → SameSent to s (story_of line before) → is_actor line to ≡ true → list_all (fits line to s) more ≡ true → AllAdmitted line before more
 unfolding AllAdmitted story_of
 all_admitted line to [] s before same act h = tt
 all_admitted line to (Take a from number ∷ more) s before same act h =
-    let k = both (fits line to s (Take a from number)) (list_all (fits line to s) more) h in
-    let e : a ≡ to = eqb-true a to (both (nat_eq a to) _ k.0).0 in
+    let k = and_parts (fits line to s (Take a from number)) (list_all (fits line to s) more) h in
+    let e : a ≡ to = eqb-true a to (and_parts (nat_eq a to) _ k.0).0 in
     rw e ((fit_admitted line to from number s (story_of line before) same act (rw e at k.0), all_admitted line to more s (Take to from number ∷ before) (same_more line to from number s (story_of line before) same) act k.1))
 all_admitted line to _ s before same act h = absurd cc
 
-pub eq_same : (n : ℕ) → nat_eq n n ≡ true
-eq_same n = grind (arith, nat_tests)
-
 some_lt : (n : ℕ) → 0 < n → nat_lt 0 n ≡ true
 some_lt n h = grind (arith, nat_tests)
-
-most_le : (m n : ℕ) → m ≤ n → nat_le m n ≡ true
-most_le m n h = grind (arith, nat_tests)
 
 -- takes of no more than what was sent
 takes_fit : (line : Line) (to from : ℕ) (s : Story) (k number : ℕ) → sends_to line to from ≡ true → 0 < number → k ≤ length (sent from to s) + 1 - number → list_all (fits line to s) (takes_from to from number k) ≡ true
@@ -83,7 +73,7 @@ unfolding takes_from
 takes_fit line to from s zero number h some few = refl
 takes_fit line to from s (suc k) number h some few =
     let le : number ≤ length (sent from to s) = omega (arith, few) in
-    rw (eq_same to, h, some_lt number some, most_le number (length (sent from to s)) le)
+    rw (eq_self to, h, some_lt number some, le-leb number (length (sent from to s)) le)
     (takes_fit line to from s k (number + 1) h (omega arith) (omega (arith, few)))
 
 due_fits : (line : Line) (to from : ℕ) (s : Story) → sends_to line to from ≡ true → list_all (fits line to s) (due to s from) ≡ true
@@ -92,7 +82,7 @@ due_fits line to from s h = takes_fit line to from s (length (sent from to s) - 
 delivered_fit : (line : Line) (to : ℕ) (s : Story) (senders : List ℕ) → list_all (fits line to s) (flat_map (due to s) (filter (sends_to line to) senders)) ≡ true
 delivered_fit line to s [] = refl
 delivered_fit line to s (from ∷ senders) = by_test (sends_to line to from)
-    (λ y. rw y (list_all-append (fits line to s) (due to s from) (flat_map (due to s) (filter (sends_to line to) senders)) ∙ all (list_all (fits line to s) (due to s from)) _ (due_fits line to from s y) (delivered_fit line to s senders)))
+    (λ y. rw y (list_all-append (fits line to s) (due to s from) (flat_map (due to s) (filter (sends_to line to) senders)) ∙ and_from (list_all (fits line to s) (due to s from)) _ (due_fits line to from s y) (delivered_fit line to s senders)))
     (λ n. rw n (delivered_fit line to s senders))
 
 pub delivery_admitted : (line : Line) (before : List Event) (s : Story) (to : ℕ) → s ≡ story_of line before → is_actor line to ≡ true → AllAdmitted line before (deliveries line s to)
@@ -105,5 +95,5 @@ one_admitted line before s e is h = (ap (λ x. admits line x e) (sym is) ∙ h, 
 
 -- what an event of a script stands for is admitted where the event is
 pub stands_admitted : (line : Line) (before : List Event) (s : Story) (e : Event) → s ≡ story_of line before → admits line s e ≡ true → AllAdmitted line before (stands_for line s e)
-stands_admitted line before s (Deliver to) is h = delivery_admitted line before s to is (both (is_actor line to) _ h).0
+stands_admitted line before s (Deliver to) is h = delivery_admitted line before s to is (and_parts (is_actor line to) _ h).0
 stands_admitted line before s e is h = one_admitted line before s e is h

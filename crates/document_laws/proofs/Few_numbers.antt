@@ -1,30 +1,29 @@
 -- The numbers of authorities are few: a zone issues a further one only where it takes an ask or a request for entry. Each of
 -- these is sent by a text line of its own, and taken by one, or by a delivery, which takes a message of a link once.
 use Rattle.std.proofs.Common.{◌≡◌, ℕ, zero, suc, ◌+◌, ◌-◌, ◌≤◌, ◌<◌, max, List, [], ◌∷◌, ◌++◌, length, drop, append-nil, Option, Some, None, Bool, true, false, refl, sym, ◌∙◌, ap, subst, arith}
-use Rattle.std.proofs.lemmas.Bool.{eqb-true}
+use Rattle.std.proofs.lemmas.Bool.{eqb-true, and_parts, not-true}
 use Rattle.std.proofs.lemmas.Bool.Decides.{nat_tests}
 use Rattle.std.proofs.lemmas.List.Folds.{list_all-append}
 use Rattle.std.specs.Prelude.{nat_eq, not, filter, flat_map, slice_get}
 use Rattle.std.specs.List.{list_all}
+use Rattle.list_laws.proofs.Tests.{eq_self, by_test}
 use Rattle.track_points.specs.declared.ids.TrainId.{TrainId}
 use Rattle.track_points.specs.declared.path.Path.{Path}
-use Rattle.track_points.proofs.Some.{by_test}
 use Rattle.definitions.specs.declared.event.Event.{Event}
 use Rattle.definitions.specs.declared.event.Event.TheVariants.{Take, Deliver}
 use Rattle.definitions.specs.declared.message.Msg.{Msg}
 use Rattle.definitions.specs.declared.message.Msg.TheVariants as msg
 use Rattle.definitions.specs.Track.{Line, is_actor}
-use Rattle.definitions.specs.Story.{Entry as Made, Story, to_actor, sent, greatest_in, greatest_issued}
+use Rattle.definitions.specs.Story.{Transition, Story, to_actor, sent, greatest_in, greatest_issued}
 use Rattle.definitions.specs.World.{auth_number}
 use Rattle.definitions.specs.Control.{last_issued}
-use Rattle.definitions.specs.Steps.{takes, made, taking, message, effects, story_of, taken_by, taken_most, takes_from, due, sends_to, actors, deliveries}
+use Rattle.definitions.specs.Steps.{takes, transition, taking, message, effects, story_of, taken_by, taken_most, takes_from, due, sends_to, actors, deliveries}
 use Rattle.definitions.specs.Trace.{went, stands_for}
-use Rattle.event_laws.proofs.Notions.{both, not_true}
 use Rattle.event_laws.proofs.Issued.{AllIn, AtMostOne, says_nothing, says_one}
 use Rattle.event_laws.proofs.Last_issued.{number_none}
 use Rattle.event_laws.proofs.Answers.{train_of, asks, takes_each}
 use Rattle.event_laws.proofs.Does.{Tells, by_does, effect_event}
-use Rattle.document_laws.proofs.Delivered.{taker, eq_same}
+use Rattle.document_laws.proofs.Delivered.{taker}
 
 -- Asks and requests for entry among messages.
 
@@ -111,7 +110,7 @@ unfolding story_of sent asks_in
 zone_sends line [] from to h = refl
 zone_sends line (e ∷ events) from to h =
     let s : Story = story_of line events in
-    let x : Made = effects line s e in
+    let x : Transition = effects line s e in
     let i = zone_sends line events from to h in
     by_test (nat_eq (effects line (story_of line events) e).actor from)
     (λ y.
@@ -132,7 +131,7 @@ unfoldable pub all_waiting : ℕ → Story → ℕ
 all_waiting zero s = 0
 all_waiting (suc n) s = waiting n s + all_waiting n s
 
-waiting_next : (to : ℕ) (x : Made) (s : Story) → waiting to (x ∷ s) ≤ waiting to s + asks_in (to_actor to x.issued)
+waiting_next : (to : ℕ) (x : Transition) (s : Story) → waiting to (x ∷ s) ≤ waiting to s + asks_in (to_actor to x.issued)
 unfolding sent taken_most
 waiting_next to x s =
     let m = taken_most to 0 s in
@@ -195,7 +194,7 @@ last_take line s e to from (Some m) t =
     (takes_each (λ n. auth_number t n ≤ last_issued t s + asks m) line s to from m (λ number mark path le. auth_most t s (asks m) (train_of m) number mark path le) (λ u number. omega arith)) in
     omega (arith, most)
 
-last_sent : (t : ℕ) (x : Made) (s : Story) (y : ℕ × Msg) → x.issued ≡ y ∷ [] → auth_number t y.1 ≡ 0 → last_issued t (x ∷ s) ≤ last_issued t s
+last_sent : (t : ℕ) (x : Transition) (s : Story) (y : ℕ × Msg) → x.issued ≡ y ∷ [] → auth_number t y.1 ≡ 0 → last_issued t (x ∷ s) ≤ last_issued t s
 unfolding greatest_issued greatest_in
 last_sent t x s y is none =
     let e = ap (λ (issued : List (ℕ × Msg)). greatest_in (auth_number t) issued) is in
@@ -205,8 +204,8 @@ last_sent t x s y is none =
 abbrev pub Few : ℕ → Story → Type 0
 Few count s = (t n : ℕ) → last_issued t s + all_waiting n s ≤ count
 
--- an entry that sends none of them
-few_calm : (d count : ℕ) (x : Made) (s : Story) → AllIn (λ m. asks m ≡ 0) x.issued → ((t : ℕ) → last_issued t (x ∷ s) ≤ last_issued t s + d) → Few count s → Few (count + d) (x ∷ s)
+-- a transition that sends none of them
+few_calm : (d count : ℕ) (x : Transition) (s : Story) → AllIn (λ m. asks m ≡ 0) x.issued → ((t : ℕ) → last_issued t (x ∷ s) ≤ last_issued t s + d) → Few count s → Few (count + d) (x ∷ s)
 few_calm d count x s none last f t n =
     let w = all_fewer n s (x ∷ s) (λ i l. fewer i) in
     let a = last t in
@@ -217,7 +216,7 @@ few_calm d count x s none last f t n =
     fewer i = let a = waiting_next i x s in let b = none_to i x.issued none in omega (arith, a, b)
 
 -- one that sends one message, and that no authority
-few_sent : (count : ℕ) (x : Made) (s : Story) (y : ℕ × Msg) → x.issued ≡ y ∷ [] → ((t : ℕ) → auth_number t y.1 ≡ 0) → Few count s → Few (count + 1) (x ∷ s)
+few_sent : (count : ℕ) (x : Transition) (s : Story) (y : ℕ × Msg) → x.issued ≡ y ∷ [] → ((t : ℕ) → auth_number t y.1 ≡ 0) → Few count s → Few (count + 1) (x ∷ s)
 few_sent count x s y is none f t n =
     let a = all_but_one y.0 0 1 (suc (y.0 + n)) s (x ∷ s) other here (omega arith) in
     let b = all_below n (suc (y.0 + n)) (x ∷ s) (omega arith) in
@@ -240,14 +239,14 @@ few_take : (line : Line) (count : ℕ) (s : Story) (e : Event) (to from : ℕ) (
 few_take line count s e to from m f =
     few_calm 1 count (taking line s e to from (Some m)) s (take_asks line s e to from (Some m)) (λ t. let a = last_take line s e to from (Some m) t in let b = asks_one m in omega (arith, a, b)) f
 
-few_told : (count : ℕ) (s : Story) (e : Event) (x : Made) → AtMostOne (Tells s e) x.issued → Few count s → Few (count + 1) (x ∷ s)
+few_told : (count : ℕ) (s : Story) (e : Event) (x : Transition) → AtMostOne (Tells s e) x.issued → Few count s → Few (count + 1) (x ∷ s)
 unfolding AllIn greatest_issued greatest_in
 few_told count s e x (says_nothing h) f = few_calm 1 count x s (rw h tt) (λ t. rw h (omega arith)) f
 few_told count s e x (says_one y h p) f = few_sent count x s y h (λ t. number_none t y.1 (p.unauthorized t)) f
 
 few_event : (line : Line) (count : ℕ) (s : Story) (e : Event) → Few count s → Few (count + 1) (effects line s e ∷ s)
 few_event line count s e f = by_does line s e (λ x. Few (count + 1) (x ∷ s))
-    (λ a x i. few_told count s e (made e a None x) i f)
+    (λ a x i. few_told count s e (transition e a None x) i f)
     (λ from m k. few_take line count s (Take 0 from k.number) 0 from m f)
     (λ z from m k. few_take line count s (Take (suc z) from k.number) (suc z) from m f)
 
@@ -255,14 +254,14 @@ few_event line count s e f = by_does line s e (λ x. Few (count + 1) (x ∷ s))
 
 -- the next message of the world is taken
 module _ (line : Line) (s : Story) (to number : ℕ) (away : nat_eq to 0 ≡ false) (next : taken_most to 0 s + 1 ≡ number) where
-  abbrev x : Made
+  abbrev x : Transition
   x = effects line s (Take to 0 number)
 
   most_taken : taken_most to 0 (effects line s (Take to 0 number) ∷ s) ≡ number
   unfolding taken_most
   most_taken =
       ap (λ (e : Event). max (taken_by to 0 e) (taken_most to 0 s)) (effect_event line s (Take to 0 number))
-      ∙ (let own = eq_same to in rw own (omega (arith, next)))
+      ∙ (let own = eq_self to in rw own (omega (arith, next)))
 
   sent_still : sent 0 to (effects line s (Take to 0 number) ∷ s) ≡ sent 0 to s
   unfolding sent
@@ -314,7 +313,7 @@ few_zone line count events (Take to from number) h f =
     let m = message from to number s in
     let a = asks_next (number - 1) (sent from to s) in
     let b = asks_dropped (number - 1) (sent from to s) in
-    let z = zone_sends line events from to (not_true (nat_eq from 0) h) in
+    let z = zone_sends line events from to (not-true (nat_eq from 0) h) in
     let g = few_calm 0 count (effects line s (Take to from number)) s (take_asks line s (Take to from number) to from m)
     (λ u. let l = last_take line s (Take to from number) to from m u in omega (arith, l, a, b, z)) f in
     λ t n. let k = g t n in omega (arith, k)
@@ -324,7 +323,7 @@ few_zones : (line : Line) (more events : List Event) (count : ℕ) → list_all 
 unfolding went story_of
 few_zones line [] events count h f = f
 few_zones line (e ∷ more) events count h f =
-    let k = both (by_zone e) (list_all by_zone more) h in
+    let k = and_parts (by_zone e) (list_all by_zone more) h in
     few_zones line more (e ∷ events) count k.1 (few_zone line count events e k.0 f)
 
 takes_by_zone : (to from number n : ℕ) → not (nat_eq from 0) ≡ true → list_all by_zone (takes_from to from number n) ≡ true
@@ -335,7 +334,7 @@ takes_by_zone to from number (suc n) h = rw h (takes_by_zone to from (number + 1
 due_by_zones : (line : Line) (to : ℕ) (s : Story) (senders : List ℕ) → list_all (λ from. not (nat_eq from 0)) senders ≡ true → list_all by_zone (flat_map (due to s) (filter (sends_to line to) senders)) ≡ true
 due_by_zones line to s [] h = refl
 due_by_zones line to s (from ∷ senders) h =
-    let k = both (not (nat_eq from 0)) (list_all (λ i. not (nat_eq i 0)) senders) h in
+    let k = and_parts (not (nat_eq from 0)) (list_all (λ i. not (nat_eq i 0)) senders) h in
     let rest = due_by_zones line to s senders k.1 in
     by_test (sends_to line to from)
     (λ y. rw y (list_all-append by_zone (due to s from) (flat_map (due to s) (filter (sends_to line to) senders)) ∙ (let a = takes_by_zone to from (taken_most to from s + 1) (length (sent from to s) - taken_most to from s) k.0 in rw (a, rest) refl)))
@@ -354,7 +353,7 @@ few_senders line events to count zones h f =
     let zoned = due_by_zones line to s zones h in
     by_test (sends_to line to 0)
     (λ y.
-    let away = not_true (nat_eq to 0) (both (not (nat_eq to 0)) (is_actor line 0) y).0 in
+    let away = not-true (nat_eq to 0) (and_parts (not (nat_eq to 0)) (is_actor line 0) y).0 in
     let world = few_world line to away (length (sent 0 to s) - taken_most to 0 s) (taken_most to 0 s + 1) events count refl f in
     rw y (subst (λ (es : List Event). Few count (story_of line es)) (sym (went_joined line (due to s 0) rest events)) (few_zones line rest (went line events (due to s 0)).events count zoned world)))
     (λ n. rw n (few_zones line rest events count zoned f))

@@ -1,8 +1,9 @@
 -- Where text lines lead that say items, the word and events, and what they write.
 use Rattle.std.proofs.Common.{◌≡◌, ℕ, ◌+◌, ◌≤◌, List, [], ◌∷◌, ◌++◌, length, map, true, false, refl, sym, ◌∙◌, ap, subst, append_assoc, append-nil, arith}
-use Rattle.std.proofs.lemmas.Bool.{le-ltb}
+use Rattle.std.proofs.lemmas.Bool.{le-ltb, and_parts}
 use Rattle.std.specs.Prelude.{nat_eq, count_by}
 use Rattle.std.specs.List.{list_any}
+use Rattle.list_laws.proofs.Tests.{by_test}
 use Rattle.definitions.specs.declared.item.Item.{Item}
 use Rattle.definitions.specs.declared.event.Event.{Event}
 use Rattle.definitions.specs.declared.outcome.Outcome.{Outcome}
@@ -18,8 +19,6 @@ use Rattle.definitions.specs.Steps.{story_of}
 use Rattle.definitions.specs.Endings.{outcomes_text}
 use Rattle.definitions.specs.Trace.{Stage, Items, Script, Over, Reading, After, Step, counted, quiet, start, is_over, input_limit, text_read, line_read, stage_read, second_zone, stage_ends, went, stands_for, gone, behind, ended, given}
 use Rattle.document_laws.proofs.Throughout.{all_three, zones_append}
-use Rattle.event_laws.proofs.Notions.{both}
-use Rattle.track_points.proofs.Some.{by_test}
 use Rattle.document_laws.specs.Whole.{saying, said, behind_event, behind_events, Admitted}
 use Rattle.definitions.specs.declared.document.Ending.{Ending}
 use Rattle.byte_feed.specs.Feed.{lines_text}
@@ -181,7 +180,7 @@ item_alone l ls ih (says.Item i) is r before (j ∷ items) at says_ ok one withi
     let same : i ≡ j = cc in
     let more : said ls ≡ map says.Item items = cc in
     let x : After = quiet (Items (before ++ j ∷ [])) in
-    let k = both (nat_eq (rule_of before j) 0) (builds (before ++ j ∷ []) items) ok in
+    let k = and_parts (nat_eq (rule_of before j) 0) (builds (before ++ j ∷ []) items) ok in
     let joined : (before ++ j ∷ []) ++ items ≡ before ++ j ∷ items = append_assoc before (j ∷ []) items in
     subst (λ (is_ : List Item). Leads r (l ∷ ls) (Items is_) []) joined
     (leads_more r (Items before) (Items ((before ++ j ∷ []) ++ items)) l ls x [] at refl (omega (arith, within))
@@ -218,7 +217,7 @@ item_up l ls ih (says.Item i) is r before (j ∷ items) events at says_ ok one f
     let same : i ≡ j = cc in
     let more : said ls ≡ map says.Item items ++ says.Script ∷ map says.Event events = cc in
     let x : After = quiet (Items (before ++ j ∷ [])) in
-    let k = both (nat_eq (rule_of before j) 0) (builds (before ++ j ∷ []) items) ok in
+    let k = and_parts (nat_eq (rule_of before j) 0) (builds (before ++ j ∷ []) items) ok in
     let joined : (before ++ j ∷ []) ++ items ≡ before ++ j ∷ items = append_assoc before (j ∷ []) items in
     let all = (before ++ j ∷ []) ++ items in
     subst (λ (k : Line). Leads r (l ∷ ls) (Script k (behind_events k [] events) (length events)) (lines_behind k [] events)) joined

@@ -1,8 +1,10 @@
 -- What every stage that is reached keeps, and so safety after each event of every history.
 use Rattle.std.proofs.Common.{◌≡◌, ℕ, zero, suc, ◌+◌, ◌≤◌, ◌<◌, ◌^◌, List, [], ◌∷◌, ◌++◌, length, take, drop, Bool, true, false, refl, sym, ◌∙◌, ap, append_assoc, append-nil, arith}
 use Rattle.std.proofs.lemmas.List.Sums.{sum_by-append}
-use Rattle.std.specs.Prelude.{nat_eq, nat_lt, cond, count_by, ◌&&◌, ◌||◌, not}
+use Rattle.std.specs.Prelude.{nat_eq, nat_lt, cond, count_by, ◌&&◌, not}
 use Rattle.std.specs.List.{list_any}
+use Rattle.std.proofs.lemmas.Bool.{and_parts, or_parts}
+use Rattle.list_laws.proofs.Tests.{by_test}
 use Rattle.definitions.specs.declared.item.Item.{Item}
 use Rattle.definitions.specs.declared.item.Item.TheVariants.{Zone, Segment, Joint, Portal, Buffer, Silent}
 use Rattle.definitions.specs.declared.event.Event.{Event}
@@ -22,8 +24,6 @@ use Rattle.definitions.specs.Trace.{Stage, Items, Script, Over, Reading, start, 
 use Rattle.document_laws.specs.Throughout.{stands, SafeHistory, SafeAt, SafeThroughout}
 use Rattle.document_laws.proofs.Few_numbers.{last_before}
 use Rattle.document_laws.proofs.Bounds.{clock_small, numbers_small}
-use Rattle.event_laws.proofs.Notions.{both, neither}
-use Rattle.track_points.proofs.Some.{by_test}
 use Rattle.document_laws.proofs.Delivered.{kept_went, stands_admitted}
 
 -- the first holds, the second does not, and the third holds
@@ -37,13 +37,13 @@ pub builds_more : (before items : List Item) (i : Item) → builds before items 
 unfolding builds
 builds_more before [] i b h = rw (ap (λ k. nat_eq (rule_of k i) 0) (sym (append-nil before)) ∙ h) refl
 builds_more before (j ∷ items) i b h =
-    let k = both (nat_eq (rule_of before j) 0) (builds (before ++ j ∷ []) items) b in
+    let k = and_parts (nat_eq (rule_of before j) 0) (builds (before ++ j ∷ []) items) b in
     rw k.0 (builds_more (before ++ j ∷ []) items i k.1 (ap (λ l. nat_eq (rule_of l i) 0) (append_assoc before (j ∷ []) items) ∙ h))
 
 pub none_counted : (items : List Item) → list_any is_any_zone items ≡ false → count_by is_any_zone items ≡ 0
 none_counted [] h = refl
 none_counted (i ∷ items) h =
-    let k = neither (is_any_zone i) (list_any is_any_zone items) h in
+    let k = or_parts (is_any_zone i) (list_any is_any_zone items) h in
     rw k.0 (none_counted items k.1)
 
 pub zones_append : (xs ys : List Item) → count_by is_any_zone (xs ++ ys) ≡ count_by is_any_zone xs + count_by is_any_zone ys

@@ -9,21 +9,21 @@ use Rattle.definitions.specs.declared.document.Ending.TheVariants as ends
 use Rattle.definitions.specs.Lines.{text_lines}
 use Rattle.definitions.specs.Rules.{finish_rule}
 use Rattle.definitions.specs.Track.{Line}
-use Rattle.definitions.specs.Story.{Entry as Made, Story}
+use Rattle.definitions.specs.Story.{Transition, Story}
 use Rattle.definitions.specs.Steps.{effects, story_of}
 use Rattle.definitions.specs.Endings.{outcome_text, outcomes_text}
 use Rattle.definitions.specs.Trace.{Items, Script, start, stage_ends, went, stands_for, behind, ended, trace}
 use Rattle.document_laws.specs.Whole.{behind_event, behind_events, IsDocument, IsDocumentWithoutScript, story_text, whole, refuses}
 use Rattle.document_laws.proofs.Leads.{bytes_same, lines_of, lines_behind, items_lead, script_leads_up, ends_behind}
 
-story_snoc : (s : Story) (x : Made) → story_text (x ∷ s) ≡ story_text s ++ outcomes_text x.lines
+story_snoc : (s : Story) (x : Transition) → story_text (x ∷ s) ≡ story_text s ++ outcomes_text x.lines
 story_snoc s x =
     ap texts (reverse-append (x ∷ []) s)
-    ∙ (flat_map-append (λ (e : Made). outcomes_text e.lines) (reverse s) (x ∷ [])
+    ∙ (flat_map-append (λ (e : Transition). outcomes_text e.lines) (reverse s) (x ∷ [])
     ∙ ap (λ t. story_text s ++ t) (append-nil (outcomes_text x.lines)))
   where
-    texts : List Made → List ℕ
-    texts = flat_map (λ (e : Made). outcomes_text e.lines)
+    texts : List Transition → List ℕ
+    texts = flat_map (λ (e : Transition). outcomes_text e.lines)
 
 went_text : (line : Line) (more before : List Event) → story_text (story_of line (went line before more).events) ≡ story_text (story_of line before) ++ outcomes_text (went line before more).lines
 unfolding went story_of

@@ -8,7 +8,7 @@ use Rattle.definitions.specs.Steps.{story_of}
 use Rattle.definitions.specs.Safe.{Safe, AllGranted}
 use Rattle.definitions.specs.Trace.{Stage, Items, Script, Over, Reading, start, line_read}
 
--- where the document stands behind these text lines
+-- where the document stands after these text lines
 unfoldable pub stands : Reading → List (List ℕ) → Reading
 stands r [] = r
 stands r (line ∷ lines) = stands (line_read r line).next lines

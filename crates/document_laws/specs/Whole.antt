@@ -9,7 +9,7 @@ use Rattle.definitions.specs.declared.document.Ending.TheVariants as ends
 use Rattle.definitions.specs.Lines.{text_lines, text_of}
 use Rattle.definitions.specs.Grammar.{line_of}
 use Rattle.definitions.specs.Rules.{finish_rule, is_any_zone, builds}
-use Rattle.definitions.specs.Story.{Entry as Made, Story}
+use Rattle.definitions.specs.Story.{Transition, Story}
 use Rattle.definitions.specs.Steps.{story_of}
 use Rattle.definitions.specs.Track.{Line}
 use Rattle.definitions.specs.Premises.{admits}
@@ -29,16 +29,16 @@ unfoldable pub said : List (List ℕ) → List TextLine
 said [] = []
 said (line ∷ lines) = saying (line_of (text_of line)) (said lines)
 
--- a history behind one more event of a script: a delivery is its takes
+-- a history after one more event of a script: a delivery is its takes
 abbrev pub behind_event : Line → List Event → Event → List Event
 behind_event line before e = (went line before (stands_for line (story_of line before) e)).events
 
--- a history behind further events of a script
+-- a history after further events of a script
 unfoldable pub behind_events : Line → List Event → List Event → List Event
 behind_events line before [] = before
 behind_events line before (e ∷ events) = behind_events line (behind_event line before e) events
 
--- each event of a script is admitted behind the history so far
+-- each event of a script is admitted after the history so far
 unfoldable pub Admitted : Line → List Event → List Event → Type 0
 Admitted line before [] = Unit {0}
 Admitted line before (e ∷ events) = (admits line (story_of line before) e ≡ true) × Admitted line (behind_event line before e) events
@@ -62,7 +62,7 @@ pub record IsDocumentWithoutScript (bytes : List ℕ) (items : List Item) : Type
 
 -- the outcome lines of a story, the oldest first
 abbrev pub story_text : Story → List ℕ
-story_text s = flat_map (λ (e : Made). outcomes_text e.lines) (reverse s)
+story_text s = flat_map (λ (e : Transition). outcomes_text e.lines) (reverse s)
 
 -- the outcome lines of the whole history, and the number of events of the script
 abbrev pub whole : List Item → List Event → Given

@@ -1,12 +1,12 @@
 -- What an admitted event keeps to.
 use Rattle.std.proofs.Common.{◌≡◌, Bool, true, false, ◌&&◌, not, refl, if◌then◌else◌}
 use Rattle.std.specs.Prelude.{nat_eq}
+use Rattle.std.proofs.lemmas.Bool.{and_parts, not-true}
 use Rattle.definitions.specs.declared.event.Event.{Event}
 use Rattle.definitions.specs.Track.{Line}
 use Rattle.definitions.specs.Story.{Story}
 use Rattle.definitions.specs.Numbers.{least}
 use Rattle.definitions.specs.Premises.{built, too_many, reports_rightly, moves_rightly, stops_rightly, enters_rightly, takes_rightly, premise_of, admits}
-use Rattle.event_laws.proofs.Notions.{both, not_true}
 
 pub record Admitted (line : Line) (s : Story) (e : Event) : Type 0 where
   pub form : built line s e ≡ true
@@ -38,12 +38,12 @@ none_broken false b c d e h = absurd cc
 pub admitted : (line : Line) (s : Story) (e : Event) → admits line s e ≡ true → Admitted line s e
 unfolding least
 admitted line s e h =
-    let k = both (built line s e) (not (too_many s e) && nat_eq (premise_of line s e) 0) h in
-    let m = both (not (too_many s e)) (nat_eq (premise_of line s e) 0) k.1 in
+    let k = and_parts (built line s e) (not (too_many s e) && nat_eq (premise_of line s e) 0) h in
+    let m = and_parts (not (too_many s e)) (nat_eq (premise_of line s e) 0) k.1 in
     let r = none_broken (reports_rightly line s e) (moves_rightly s e) (stops_rightly line s e) (enters_rightly s e) (takes_rightly s e) m.1 in
     record {
       form = k.0;
-      room = not_true (too_many s e) m.0;
+      room = not-true (too_many s e) m.0;
       reporting = r.first;
       moving = r.second;
       stopping = r.third;

@@ -2,21 +2,22 @@
 -- by the world, and a take by a zone.
 use Rattle.std.proofs.Common.{◌≡◌, ℕ, zero, suc, ◌-◌, List, Option, Some, None, Bool, true, false, ◌&&◌, not, refl, sym, ◌∙◌, ap, subst}
 use Rattle.std.specs.Prelude.{nat_eq}
+use Rattle.std.proofs.lemmas.Option.{same_Some}
+use Rattle.std.proofs.lemmas.Bool.{and_parts, not-true}
+use Rattle.list_laws.proofs.Tests.{by_test}
 use Rattle.track_points.specs.declared.ids.DirSeg.{DirSeg}
 use Rattle.track_points.specs.declared.ids.TrainId.{TrainId}
 use Rattle.track_points.specs.declared.path.Path.{Path}
-use Rattle.track_points.proofs.Some.{by_test}
 use Rattle.definitions.specs.declared.event.Event.{Event}
 use Rattle.definitions.specs.declared.event.Event.TheVariants.{Entry, Enter, Ask, Report, Time, Take}
 use Rattle.definitions.specs.declared.message.Msg.{Msg}
 use Rattle.definitions.specs.declared.message.Msg.TheVariants as msg
 use Rattle.definitions.specs.Track.{Line, zone_of, is_actor}
-use Rattle.definitions.specs.Story.{Entry as Made, Story}
+use Rattle.definitions.specs.Story.{Transition, Story}
 use Rattle.definitions.specs.World.{Facts, facts_of, clock, entry_authority, is_auth}
 use Rattle.definitions.specs.Premises.{built}
 use Rattle.definitions.specs.Control.{message_time, took_time}
-use Rattle.definitions.specs.Steps.{Effect, nothing, sender_of, entering, requesting, telling, reporting, world_takes, zone_step, made, taking, message, effects}
-use Rattle.event_laws.proofs.Notions.{both, not_true}
+use Rattle.definitions.specs.Steps.{Effect, nothing, sender_of, entering, requesting, telling, reporting, world_takes, zone_step, transition, taking, message, effects}
 use Rattle.event_laws.proofs.Issued.{AllIn, AllIssued, issued_all, AtMostOne, says_nothing, says_one, each_issued, NoAuth}
 use Rattle.event_laws.proofs.Admitted.{Admitted}
 use Rattle.event_laws.proofs.Answers.{train_of, zone_each, Replies, replies, world_issues, world_none}
@@ -60,19 +61,19 @@ pub record TakeOf (s : Story) (e : Event) (to from : ℕ) (m : Msg) : Type 0 whe
   pub is : e ≡ Take to from number
   pub was_sent : message from to number s ≡ Some m
 
-by_message : (line : Line) (s : Story) (to from number : ℕ) (r : Option Msg) → message from to number s ≡ r → (P : Made → Type 0)
-    → ((a : ℕ) (x : Effect) → AtMostOne (Tells s (Take to from number)) x.issued → P (made (Take to from number) a None x))
-    → ((y : ℕ) (m : Msg) (k : TakeOf s (Take to from number) 0 y m) → P (made (Take 0 y k.number) 0 (Some (y, m)) (world_takes s y m)))
-    → ((z y : ℕ) (m : Msg) (k : TakeOf s (Take to from number) (suc z) y m) → P (made (Take (suc z) y k.number) (suc z) (Some (y, m)) (zone_step line (suc z) y s m)))
+by_message : (line : Line) (s : Story) (to from number : ℕ) (r : Option Msg) → message from to number s ≡ r → (P : Transition → Type 0)
+    → ((a : ℕ) (x : Effect) → AtMostOne (Tells s (Take to from number)) x.issued → P (transition (Take to from number) a None x))
+    → ((y : ℕ) (m : Msg) (k : TakeOf s (Take to from number) 0 y m) → P (transition (Take 0 y k.number) 0 (Some (y, m)) (world_takes s y m)))
+    → ((z y : ℕ) (m : Msg) (k : TakeOf s (Take to from number) (suc z) y m) → P (transition (Take (suc z) y k.number) (suc z) (Some (y, m)) (zone_step line (suc z) y s m)))
     → P (taking line s (Take to from number) to from r)
 by_message line s to from number None is P own world zone = own to nothing (says_nothing refl)
 by_message line s zero from number (Some m) is P own world zone = world from m (record { number = number; is = refl; was_sent = is })
 by_message line s (suc z) from number (Some m) is P own world zone = zone z from m (record { number = number; is = refl; was_sent = is })
 
-pub by_does : (line : Line) (s : Story) (e : Event) (P : Made → Type 0)
-    → ((a : ℕ) (x : Effect) → AtMostOne (Tells s e) x.issued → P (made e a None x))
-    → ((from : ℕ) (m : Msg) (k : TakeOf s e 0 from m) → P (made (Take 0 from k.number) 0 (Some (from, m)) (world_takes s from m)))
-    → ((z from : ℕ) (m : Msg) (k : TakeOf s e (suc z) from m) → P (made (Take (suc z) from k.number) (suc z) (Some (from, m)) (zone_step line (suc z) from s m)))
+pub by_does : (line : Line) (s : Story) (e : Event) (P : Transition → Type 0)
+    → ((a : ℕ) (x : Effect) → AtMostOne (Tells s e) x.issued → P (transition e a None x))
+    → ((from : ℕ) (m : Msg) (k : TakeOf s e 0 from m) → P (transition (Take 0 from k.number) 0 (Some (from, m)) (world_takes s from m)))
+    → ((z from : ℕ) (m : Msg) (k : TakeOf s e (suc z) from m) → P (transition (Take (suc z) from k.number) (suc z) (Some (from, m)) (zone_step line (suc z) from s m)))
     → P (effects line s e)
 by_does line s (Take to from number) P own world zone = by_message line s to from number (message from to number s) refl P own world zone
 by_does line s (Entry t step) P own world zone = own 0 (requesting (clock s) t step (zone_of line step.seg.0) (facts_of t.0 s)) (request_issues s (Entry t step) t step (zone_of line step.seg.0) (facts_of t.0 s))
@@ -82,7 +83,7 @@ by_does line s (Report t z step offset whole) P own world zone = own 0 (telling 
 by_does line s (Time z t) P own world zone = own 0 (telling z.0 (msg.Time (clock s) t)) (says_one _ refl (record { time = refl; unauthorized = λ t. refl; reported = λ h. absurd cc }))
 by_does line s _ P own world zone = own 0 nothing (says_nothing refl)
 
--- What an event comes to is an entry of that event.
+-- The transition of an event names that event.
 pub effect_event : (line : Line) (s : Story) (e : Event) → (effects line s e).event ≡ e
 effect_event line s e = by_does line s e (λ x. x.event ≡ e) (λ a x i. refl) (λ from m k. sym k.is) (λ z from m k. sym k.is)
 
@@ -122,10 +123,7 @@ pub take_issued : (P : Msg → Type 0) (s : Story) (e : Event) (to from : ℕ) (
 take_issued P s e to from m a k = issued_all P from to s (k.number - 1) m a k.was_sent
 
 same_message : (x y : ℕ × Msg) → Some x ≡ Some y → x.1 ≡ y.1
-same_message x y h = ap (λ (z : ℕ × Msg). z.1) (one x y h)
-  where
-    one : (x y : ℕ × Msg) → Some x ≡ Some y → x ≡ y
-    one x y h = cc
+same_message x y h = ap (λ (z : ℕ × Msg). z.1) (same_Some x y h)
 
 pub took_issued : (P : Msg → Type 0) (line : Line) (s : Story) → AllIssued P s → (e : Event) (other : ℕ) (n : Msg) → (effects line s e).took ≡ Some (other, n) → P n
 took_issued P line s a e other n h = by_does line s e (λ x. x.took ≡ Some (other, n) → P n)
@@ -141,5 +139,5 @@ effect_took P line s p a e = by_does line s e (λ x. P (took_time x.took))
 -- an admitted take is between two actors of the line
 pub take_actors : (line : Line) (s : Story) (e : Event) (to from : ℕ) (m : Msg) → Admitted line s e → TakeOf s e to from m → (nat_eq to from ≡ false) × ((is_actor line to ≡ true) × (is_actor line from ≡ true))
 take_actors line s e to from m a k =
-    let b = both (not (nat_eq to from)) (is_actor line to && is_actor line from) (subst (λ (y : Event). built line s y ≡ true) k.is a.form) in
-    (not_true (nat_eq to from) b.0, both (is_actor line to) (is_actor line from) b.1)
+    let b = and_parts (not (nat_eq to from)) (is_actor line to && is_actor line from) (subst (λ (y : Event). built line s y ≡ true) k.is a.form) in
+    (not-true (nat_eq to from) b.0, and_parts (is_actor line to) (is_actor line from) b.1)

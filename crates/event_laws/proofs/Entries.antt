@@ -1,14 +1,14 @@
--- The account and its notions one entry further.
+-- The account and its notions one transition further.
 use Rattle.std.proofs.Common.{◌≡◌, ℕ, max, List, [], ◌∷◌, Option, Some, None, Bool, true, false, ◌&&◌, refl, sym, ◌∙◌, ap, subst, arith, nat_le, nat_lt, nat_eq}
-use Rattle.std.proofs.lemmas.Bool.{eqb-true}
+use Rattle.std.proofs.lemmas.Bool.{eqb-true, and_parts}
 use Rattle.std.proofs.lemmas.Bool.Decides.{nat_tests}
+use Rattle.list_laws.proofs.Tests.{by_test}
 use Rattle.track_points.specs.declared.ids.DirSeg.{DirSeg}
 use Rattle.track_points.specs.Points.{Lengths}
-use Rattle.track_points.proofs.Some.{by_test}
 use Rattle.definitions.specs.declared.message.Msg.{Msg}
 use Rattle.definitions.specs.declared.message.Msg.TheVariants as msg
 use Rattle.definitions.specs.Track.{Line, seg_len}
-use Rattle.definitions.specs.Story.{Entry as Made, Story, greatest_in, greatest_issued}
+use Rattle.definitions.specs.Story.{Transition, Story, greatest_in, greatest_issued}
 use Rattle.definitions.specs.World.{Authority, journey, is_auth, auth_number}
 use Rattle.definitions.specs.Control.{grants_entry, controls, asked_facts, last_issued, now_with}
 use Rattle.definitions.specs.Farther.{end_or_0}
@@ -16,10 +16,9 @@ use Rattle.definitions.specs.Account.{Account, end_of, shrink_end, least_of, iss
 use Rattle.definitions.specs.Fold.{account, acts, heard, heard_some, counts, fronts_heard, issues_one, issues_all}
 use Rattle.definitions.specs.Longest.{counted}
 use Rattle.definitions.specs.Fronts.{possible_front, fronts_taken}
-use Rattle.event_laws.proofs.Notions.{both}
 use Rattle.event_laws.proofs.Issued.{AllIn, NoAuth}
 
-pub account_next : (line : Line) (t : ℕ) (e : Made) (s : Story)
+pub account_next : (line : Line) (t : ℕ) (e : Transition) (s : Story)
     → account line t (e ∷ s) ≡ issues_all (seg_len line) (journey line t s) t e.issued (acts (seg_len line) t e s (journey line t s) (account line t s))
 unfolding account
 account_next line t e s = refl
@@ -112,7 +111,7 @@ module _ (len : Lengths) (z t : ℕ) (s : Story) (steps : List DirSeg) (v : Acco
       ∙ passed_same (λ (w : Account). w.fronts) (λ w. refl) len steps (least_of (end_of len steps v) fronts) (with_fronts z fronts (counts t m v))
       ∙ ap (with_at z fronts) (counts_fronts m)
 
-module _ (line : Line) (t : ℕ) (x : Made) (s : Story) where
+module _ (line : Line) (t : ℕ) (x : Transition) (s : Story) where
   abbrev len : Lengths
   len = seg_len line
 
@@ -127,7 +126,7 @@ module _ (line : Line) (t : ℕ) (x : Made) (s : Story) where
 
   pub fronts_granted : (z f : ℕ) → grants_entry z t x ≡ true → possible_front line z t (x ∷ s) f ≡ nat_eq f (asked_facts x.took).long
   fronts_granted z f h =
-      let e : x.actor ≡ z = eqb-true x.actor z (both (nat_eq x.actor z) _ h).0 in
+      let e : x.actor ≡ z = eqb-true x.actor z (and_parts (nat_eq x.actor z) _ h).0 in
       let g : grants_entry x.actor t x ≡ true = subst (λ (y : ℕ). grants_entry y t x ≡ true) (sym e) h in
       let own : nat_eq z x.actor ≡ true = grind (arith, nat_tests) in
       ap (λ (h : ℕ → ℕ → Bool). h z f) next_fronts ∙ rw (g, own) refl
@@ -168,7 +167,7 @@ module _ (line : Line) (t : ℕ) (x : Made) (s : Story) where
       let k : controls x.actor t s ≡ false = subst (λ (y : ℕ). controls y t s ≡ false) (sym e) c in
       ap (λ (h : ℕ → ℕ → Bool). h z f) next_fronts ∙ rw (g, k) refl
 
-  -- an entry that is no message of the train's controller counts nothing
+  -- a transition that is no message of the train's controller counts nothing
   pub counted_else : controls x.actor t s ≡ false → counted line t (x ∷ s) ≡ counted line t s
   counted_else c =
       ap (λ (w : Account). w.counted) (account_next line t x s) ∙ (all_numbered len steps t x.issued (acts len t x s steps v)).counted_same

@@ -1,13 +1,14 @@
 -- What holds of every message that was issued.
-use Rattle.std.proofs.Common.{◌≡◌, ℕ, zero, suc, List, [], ◌∷◌, ◌++◌, Some, Bool, true, false, ◌||◌, refl, sym, ◌∙◌, subst}
+use Rattle.std.proofs.Common.{◌≡◌, ℕ, zero, suc, List, [], ◌∷◌, ◌++◌, Some, Bool, true, false, refl, sym, ◌∙◌, subst}
 use Rattle.std.specs.Prelude.{nat_eq, slice_get}
 use Rattle.std.specs.List.{list_any}
-use Rattle.track_points.proofs.Some.{by_test}
+use Rattle.std.proofs.lemmas.Bool.{or_parts}
+use Rattle.std.proofs.lemmas.Option.{same_Some}
+use Rattle.list_laws.proofs.Tests.{by_test}
 use Rattle.definitions.specs.declared.message.Msg.{Msg}
 use Rattle.definitions.specs.declared.message.Msg.TheVariants as msg
 use Rattle.definitions.specs.Story.{Story, to_actor, sent, ever_issued}
 use Rattle.definitions.specs.World.{Authority, is_auth}
-use Rattle.event_laws.proofs.Notions.{neither}
 
 unfoldable pub AllIn : (Msg → Type 0) → List (ℕ × Msg) → Type 0
 AllIn P [] = Unit {0}
@@ -59,10 +60,7 @@ each_joined P (m ∷ xs) ys a b = (a.0, each_joined P xs ys a.1 b)
 each_at : (P : Msg → Type 0) (xs : List Msg) (k : ℕ) (m : Msg) → Each P xs → slice_get xs k ≡ Some m → P m
 unfolding Each
 each_at P [] k m a h = absurd cc
-each_at P (x ∷ xs) zero m a h = subst P (some_is x m h) a.0
-  where
-    some_is : (x m : Msg) → Some x ≡ Some m → x ≡ m
-    some_is x m h = cc
+each_at P (x ∷ xs) zero m a h = subst P (same_Some x m h) a.0
 each_at P (x ∷ xs) (suc k) m a h = each_at P xs k m a.1 h
 
 each_to : (P : Msg → Type 0) (to : ℕ) (issued : List (ℕ × Msg)) → AllIn P issued → Each P (to_actor to issued)
@@ -112,7 +110,7 @@ pub in_all_false : (test : Msg → Bool) (issued : List (ℕ × Msg)) → list_a
 unfolding AllIn
 in_all_false test [] h = tt
 in_all_false test (x ∷ issued) h =
-    let k = neither (test x.1) (list_any (λ (x : ℕ × Msg). test x.1) issued) h in (k.0, in_all_false test issued k.1)
+    let k = or_parts (test x.1) (list_any (λ (x : ℕ × Msg). test x.1) issued) h in (k.0, in_all_false test issued k.1)
 
 pub in_false_all : (test : Msg → Bool) (issued : List (ℕ × Msg)) → AllIn (λ m. test m ≡ false) issued → list_any (λ (x : ℕ × Msg). test x.1) issued ≡ false
 unfolding AllIn
@@ -123,7 +121,7 @@ all_false : (test : Msg → Bool) (s : Story) → ever_issued test s ≡ false �
 unfolding AllIssued ever_issued
 all_false test [] h = tt
 all_false test (e ∷ s) h =
-    let k = neither (list_any (λ (x : ℕ × Msg). test x.1) e.issued) (ever_issued test s) h in (in_all_false test e.issued k.0, all_false test s k.1)
+    let k = or_parts (list_any (λ (x : ℕ × Msg). test x.1) e.issued) (ever_issued test s) h in (in_all_false test e.issued k.0, all_false test s k.1)
 
 false_all : (test : Msg → Bool) (s : Story) → AllIssued (λ m. test m ≡ false) s → ever_issued test s ≡ false
 unfolding AllIssued ever_issued

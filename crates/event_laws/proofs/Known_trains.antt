@@ -1,19 +1,19 @@
 -- The trains that a zone knows: one more where it grants an entry, and the same where it does not.
-use Rattle.std.proofs.Common.{◌≡◌, ℕ, zero, suc, ◌<◌, ◌≤◌, max, Bool, true, false, ◌||◌, List, [], ◌∷◌, ◌++◌, if◌then◌else◌, Option, Some, refl, sym, ◌∙◌, ap, subst, arith, nat_eq, nat_lt}
+use Rattle.std.proofs.Common.{◌≡◌, ℕ, zero, suc, ◌<◌, ◌≤◌, max, Bool, true, false, ◌||◌, List, [], ◌∷◌, ◌++◌, Option, Some, refl, sym, ◌∙◌, ap, subst, arith, nat_eq, nat_lt}
 use Rattle.std.specs.Prelude.{filter}
 use Rattle.std.specs.List.{list_any, list_all}
-use Rattle.std.proofs.lemmas.Bool.{eqb-true}
+use Rattle.std.proofs.lemmas.Bool.{eqb-true, or_right, and_parts}
 use Rattle.std.proofs.lemmas.Bool.Decides.{nat_tests}
 use Rattle.std.proofs.lemmas.List.{append-nil}
 use Rattle.std.proofs.lemmas.List.Elements.{filter-append, filter_agree}
 use Rattle.std.proofs.lemmas.List.Folds.{list_any-append, list_all-append}
-use Rattle.track_points.proofs.Some.{by_test}
+use Rattle.list_laws.proofs.Placed.{placed, placed_last, placed_before}
+use Rattle.list_laws.proofs.Tests.{by_test}
 use Rattle.definitions.specs.declared.message.Msg.{Msg}
 use Rattle.definitions.specs.declared.message.Msg.TheVariants as msg
 use Rattle.definitions.specs.Numbers.{numbers_below}
-use Rattle.definitions.specs.Story.{Entry as Made, Story, ever}
+use Rattle.definitions.specs.Story.{Transition, Story, ever}
 use Rattle.definitions.specs.Control.{grants_entry, asks_entry, asker, controls, knows, greatest_known, known_trains}
-use Rattle.event_laws.proofs.Notions.{both}
 use Rattle.event_laws.proofs.Controls.{controls_knows}
 
 -- Numbers that pass, ascending.
@@ -45,27 +45,6 @@ more_below f n zero h none = let e : n ≡ 0 = omega arith in rw e refl
 more_below f n (suc m) h none = by_test (nat_eq n (suc m))
     (λ y. let e : n ≡ suc m = grind (arith, nat_tests) in rw e refl)
     (λ z. let le : n ≤ m = grind (arith, nat_tests) in filter_no f m (none m le) ∙ more_below f n m le none)
-
--- a number put before the first greater one
-unfoldable pub placed : ℕ → List ℕ → List ℕ
-placed t [] = t ∷ []
-placed t (u ∷ us) = if nat_lt t u then t ∷ u ∷ us else u ∷ placed t us
-
--- behind lesser ones it is the last
-placed_last : (u : ℕ) (xs : List ℕ) → list_all (λ x. nat_lt x u) xs ≡ true → placed u xs ≡ xs ++ u ∷ []
-unfolding placed
-placed_last u [] h = refl
-placed_last u (x ∷ xs) h =
-    let k = both (nat_lt x u) (list_all (λ x. nat_lt x u) xs) h in
-    let lt = k.0 in
-    let n : nat_lt u x ≡ false = grind (arith, nat_tests) in
-    rw n (ap (λ (ys : List ℕ). x ∷ ys) (placed_last u xs k.1))
-
--- before a greater one that is the last
-placed_before : (u n : ℕ) (xs : List ℕ) → u < n → placed u (xs ++ n ∷ []) ≡ placed u xs ++ n ∷ []
-unfolding placed
-placed_before u n [] h = let y : nat_lt u n ≡ true = grind (arith, nat_tests) in rw y refl
-placed_before u n (x ∷ xs) h = by_test (nat_lt u x) (λ y. rw y refl) (λ z. rw (z, placed_before u n xs h) refl)
 
 all_below : (f : ℕ → Bool) (n u : ℕ) → n ≤ u → list_all (λ x. nat_lt x u) (filter f (numbers_below n)) ≡ true
 all_below f zero u h = rw (filter_none f) refl
@@ -116,16 +95,12 @@ among_below f u (suc n) h y = by_test (nat_eq u n)
     let same : u ≡ n = eqb-true u n e in
     let passes : f n ≡ true = subst (λ (k : ℕ). f k ≡ true) same y in
     let here : nat_eq n u ≡ true = grind (arith, nat_tests) in
-    rw (filter_yes f n passes, list_any-append (λ v. nat_eq v u) (filter f (numbers_below n)) (n ∷ []), here) (or_true (is_among u (filter f (numbers_below n)))))
+    rw (filter_yes f n passes, list_any-append (λ v. nat_eq v u) (filter f (numbers_below n)) (n ∷ []), here) (or_right (is_among u (filter f (numbers_below n))) true refl))
     (λ z.
     let rest = among_below f u n (grind (arith, nat_tests)) y in
     by_test (f n)
     (λ x. rw (filter_yes f n x, list_any-append (λ v. nat_eq v u) (filter f (numbers_below n)) (n ∷ []), rest) refl)
     (λ x. rw (filter_no f n x) rest))
-  where
-    or_true : (b : Bool) → (b || true) ≡ true
-    or_true true = refl
-    or_true false = refl
 
 -- Whom a zone knows.
 
@@ -133,11 +108,11 @@ asker_is : (u : ℕ) (took : Option (ℕ × Msg)) → asks_entry u took ≡ true
 asker_is u (Some (from, msg.EntryAsk v time long error speed equipped step)) h = eqb-true v.0 u h
 asker_is u _ h = absurd cc
 
-pub asked_by : (z u : ℕ) (e : Made) → grants_entry z u e ≡ true → asker e.took ≡ u
-asked_by z u e h = asker_is u e.took (both (asks_entry u e.took) _ (both (nat_eq e.actor z) _ h).1).0
+pub asked_by : (z u : ℕ) (e : Transition) → grants_entry z u e ≡ true → asker e.took ≡ u
+asked_by z u e h = asker_is u e.took (and_parts (asks_entry u e.took) _ (and_parts (nat_eq e.actor z) _ h).1).0
 
 -- an entry is granted to the train that asked
-grants_asker : (z u : ℕ) (e : Made) → grants_entry z u e ≡ true → grants_entry z (asker e.took) e ≡ true
+grants_asker : (z u : ℕ) (e : Transition) → grants_entry z u e ≡ true → grants_entry z (asker e.took) e ≡ true
 grants_asker z u e h = subst (λ (n : ℕ). grants_entry z n e ≡ true) (sym (asked_by z u e h)) h
 
 known_small : (z t : ℕ) (s : Story) → knows z t s ≡ true → t ≤ greatest_known z s
@@ -159,17 +134,17 @@ controls_known z u s h =
     let l = known_small z u s known in
     among_below (λ t. knows z t s) u (suc (greatest_known z s)) (omega arith) known
 
-granted_alone : (z t : ℕ) (e : Made) → grants_entry z (asker e.took) e ≡ true → grants_entry z t e ≡ nat_eq (asker e.took) t
+granted_alone : (z t : ℕ) (e : Transition) → grants_entry z (asker e.took) e ≡ true → grants_entry z t e ≡ nat_eq (asker e.took) t
 granted_alone z t e h = by_test (nat_eq (asker e.took) t)
     (λ y. rw y (subst (λ (n : ℕ). grants_entry z n e ≡ true) (eqb-true (asker e.took) t y) h))
     (λ n. by_test (grants_entry z t e)
     (λ g. absurd (let same = asked_by z t e g in let y : nat_eq (asker e.took) t ≡ true = grind (arith, nat_tests) in cc))
     (λ g. rw (n, g) refl))
 
-not_granted : (z t : ℕ) (e : Made) → grants_entry z (asker e.took) e ≡ false → grants_entry z t e ≡ false
+not_granted : (z t : ℕ) (e : Transition) → grants_entry z (asker e.took) e ≡ false → grants_entry z t e ≡ false
 not_granted z t e h = by_test (grants_entry z t e) (λ g. absurd (let y = grants_asker z t e g in cc)) (λ n. n)
 
-pub known_more : (z : ℕ) (x : Made) (s : Story) → grants_entry z (asker x.took) x ≡ true → knows z (asker x.took) s ≡ false → known_trains z (x ∷ s) ≡ placed (asker x.took) (known_trains z s)
+pub known_more : (z : ℕ) (x : Transition) (s : Story) → grants_entry z (asker x.took) x ≡ true → knows z (asker x.took) s ≡ false → known_trains z (x ∷ s) ≡ placed (asker x.took) (known_trains z s)
 unfolding ever greatest_known
 known_more z x s h fresh =
     let u = asker x.took in
@@ -179,7 +154,7 @@ known_more z x s h fresh =
     ∙ (filter_more (λ t. knows z t s) u (suc (max u most)) (omega arith) fresh
     ∙ ap (λ (xs : List ℕ). placed u xs) (more_below (λ t. knows z t s) (suc most) (suc (max u most)) (omega arith) (λ k le. none_above z s k (omega arith)))))
 
-pub known_still : (z : ℕ) (x : Made) (s : Story) → grants_entry z (asker x.took) x ≡ false → known_trains z (x ∷ s) ≡ known_trains z s
+pub known_still : (z : ℕ) (x : Transition) (s : Story) → grants_entry z (asker x.took) x ≡ false → known_trains z (x ∷ s) ≡ known_trains z s
 unfolding ever greatest_known
 known_still z x s h =
     rw h (filter_agree (λ t. grants_entry z t x || knows z t s) (λ t. knows z t s) (λ t. ap (λ (b : Bool). b || knows z t s) (not_granted z t x h)) (numbers_below (suc (greatest_known z s))))

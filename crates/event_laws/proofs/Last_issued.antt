@@ -1,10 +1,10 @@
--- The last number issued of a train's authorities: an entry that issues none leaves it, and none goes back.
+-- The last number issued of a train's authorities: a transition that issues none leaves it, and none goes back.
 use Rattle.std.proofs.Common.{◌≡◌, ℕ, ◌≤◌, List, [], ◌∷◌, true, false, refl, arith}
 use Rattle.std.specs.Prelude.{nat_eq}
-use Rattle.track_points.proofs.Some.{by_test}
+use Rattle.list_laws.proofs.Tests.{by_test}
 use Rattle.definitions.specs.declared.message.Msg.{Msg}
 use Rattle.definitions.specs.declared.message.Msg.TheVariants as msg
-use Rattle.definitions.specs.Story.{Entry as Made, Story, greatest_in, greatest_issued}
+use Rattle.definitions.specs.Story.{Transition, Story, greatest_in, greatest_issued}
 use Rattle.definitions.specs.World.{is_auth, auth_number}
 use Rattle.event_laws.proofs.Issued.{AllIn, AllIssued, NoAuth}
 
@@ -17,11 +17,11 @@ unfolding AllIn greatest_in
 greatest_none t [] h = refl
 greatest_none t (x ∷ issued) h = rw (number_none t x.1 h.0, greatest_none t issued h.1) refl
 
-pub last_quiet : (t : ℕ) (e : Made) (s : Story) → NoAuth t e.issued → greatest_issued (auth_number t) (e ∷ s) ≡ greatest_issued (auth_number t) s
+pub last_quiet : (t : ℕ) (e : Transition) (s : Story) → NoAuth t e.issued → greatest_issued (auth_number t) (e ∷ s) ≡ greatest_issued (auth_number t) s
 unfolding greatest_issued
 last_quiet t e s h = let z = greatest_none t e.issued h in omega (arith, z)
 
-pub last_grows : (t : ℕ) (e : Made) (s : Story) → greatest_issued (auth_number t) s ≤ greatest_issued (auth_number t) (e ∷ s)
+pub last_grows : (t : ℕ) (e : Transition) (s : Story) → greatest_issued (auth_number t) s ≤ greatest_issued (auth_number t) (e ∷ s)
 unfolding greatest_issued
 last_grows t e s = omega arith
 

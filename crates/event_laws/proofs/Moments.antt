@@ -1,18 +1,17 @@
 -- The clock and its moments.
 use Rattle.std.proofs.Common.{◌≡◌, ℕ, ◌+◌, ◌≤◌, ◌<◌, [], ◌∷◌, true, false, refl, arith}
 use Rattle.std.proofs.lemmas.Bool.Decides.{nat_tests}
-use Rattle.std.proofs.lemmas.Bool.{eqb-true}
+use Rattle.std.proofs.lemmas.Bool.{eqb-true, or_left, or_right}
 use Rattle.std.specs.Prelude.{nat_eq, nat_le}
-use Rattle.track_points.proofs.Some.{by_test}
-use Rattle.definitions.specs.Story.{Entry as Made, Story}
+use Rattle.list_laws.proofs.Tests.{by_test}
+use Rattle.definitions.specs.Story.{Transition, Story}
 use Rattle.definitions.specs.World.{elapsed, clock, at_moment, was_moment}
-use Rattle.event_laws.proofs.Notions.{or_left, or_right}
 
-pub clock_next : (e : Made) (s : Story) → clock (e ∷ s) ≡ clock s + elapsed e.event
+pub clock_next : (e : Transition) (s : Story) → clock (e ∷ s) ≡ clock s + elapsed e.event
 unfolding clock
 clock_next e s = refl
 
-pub moment_stays : (ms : ℕ) (e : Made) (s : Story) → was_moment ms s ≡ true → was_moment ms (e ∷ s) ≡ true
+pub moment_stays : (ms : ℕ) (e : Transition) (s : Story) → was_moment ms s ≡ true → was_moment ms (e ∷ s) ≡ true
 unfolding was_moment
 moment_stays ms e s h = or_right (nat_eq (clock (e ∷ s)) ms) (was_moment ms s) h
 
@@ -35,7 +34,7 @@ moment_zero [] = refl
 moment_zero (e ∷ s) = moment_stays 0 e s (moment_zero s)
 
 -- the last moment is a new one, or was one before
-pub moment_before : (ms : ℕ) (e : Made) (s : Story) → was_moment ms (e ∷ s) ≡ true → ms < clock (e ∷ s) → was_moment ms s ≡ true
+pub moment_before : (ms : ℕ) (e : Transition) (s : Story) → was_moment ms (e ∷ s) ≡ true → ms < clock (e ∷ s) → was_moment ms s ≡ true
 unfolding was_moment
 moment_before ms e s h l = by_test (nat_eq (clock (e ∷ s)) ms)
     (λ y. absurd (grind (arith, nat_tests)))
@@ -48,6 +47,6 @@ unfolding at_moment
 at_now ms [] h = refl
 at_now ms (e ∷ s) h = let y : nat_le (clock (e ∷ s)) ms ≡ true = grind (arith, nat_tests) in rw y refl
 
-pub at_before : (ms : ℕ) (e : Made) (s : Story) → ms < clock (e ∷ s) → at_moment ms (e ∷ s) ≡ at_moment ms s
+pub at_before : (ms : ℕ) (e : Transition) (s : Story) → ms < clock (e ∷ s) → at_moment ms (e ∷ s) ≡ at_moment ms s
 unfolding at_moment
 at_before ms e s h = let n : nat_le (clock (e ∷ s)) ms ≡ false = grind (arith, nat_tests) in rw n refl

@@ -1,44 +1,15 @@
 -- The notions of a story, without their recursions.
-use Rattle.std.proofs.Common.{◌≡◌, ℕ, ◌≤◌, List, [], ◌∷◌, Option, Some, None, Bool, true, false, ◌&&◌, ◌||◌, not, refl, sym, ◌∙◌, arith}
+use Rattle.std.proofs.Common.{◌≡◌, ℕ, ◌≤◌, List, [], ◌∷◌, Option, Some, None, Bool, true, false, refl, sym, ◌∙◌, arith}
 use Rattle.std.proofs.lemmas.Bool.Decides.{nat_tests}
 use Rattle.std.proofs.lemmas.List.Folds.{list_any-append}
 use Rattle.std.proofs.lemmas.Map.Keys.{any_passes_from_place}
-use Rattle.std.specs.Prelude.{nat_eq, nat_le, slice_get, is_some}
+use Rattle.std.specs.Prelude.{nat_eq, nat_le, slice_get}
 use Rattle.std.specs.List.{list_any}
-use Rattle.track_points.proofs.Some.{by_test}
+use Rattle.std.proofs.lemmas.Bool.{or_left, or_right}
+use Rattle.list_laws.proofs.Tests.{by_or, by_test}
 use Rattle.definitions.specs.declared.message.Msg.{Msg}
-use Rattle.definitions.specs.Story.{Entry as Made, Story, or_else, to_actor, sent, ever_issued, greatest_in, greatest_issued, ever, first_told}
+use Rattle.definitions.specs.Story.{Transition, Story, or_else, to_actor, sent, ever_issued, greatest_in, greatest_issued, ever, first_told}
 use Rattle.definitions.specs.World.{enters, entered}
-
--- Tests that are joined.
-
-pub both : (a b : Bool) → (a && b) ≡ true → (a ≡ true) × (b ≡ true)
-both true b h = (refl, h)
-both false b h = absurd cc
-
-pub not_true : (b : Bool) → not b ≡ true → b ≡ false
-not_true true h = absurd cc
-not_true false h = refl
-
-pub or_left : (a b : Bool) → a ≡ true → (a || b) ≡ true
-or_left true b h = refl
-or_left false b h = absurd cc
-
-pub or_right : (a b : Bool) → b ≡ true → (a || b) ≡ true
-or_right true b h = refl
-or_right false b h = h
-
-pub or_split : (a b c : Bool) → (a ≡ true → c ≡ true) → (b ≡ true → c ≡ true) → (a || b) ≡ true → c ≡ true
-or_split true b c f g h = f refl
-or_split false b c f g h = g h
-
-pub neither : (a b : Bool) → (a || b) ≡ false → (a ≡ false) × (b ≡ false)
-neither true b h = absurd cc
-neither false b h = (refl, h)
-
-pub none_of : {A : Type 0} (x : Option A) → is_some x ≡ false → x ≡ None
-none_of None h = refl
-none_of (Some a) h = absurd cc
 
 -- What went out on a link was issued.
 
@@ -46,20 +17,18 @@ pub to_actor_any : (test : Msg → Bool) (to : ℕ) (issued : List (ℕ × Msg))
 unfolding to_actor
 to_actor_any test to [] h = h
 to_actor_any test to (x ∷ issued) h = by_test (nat_eq x.0 to)
-    (λ y. or_split (test x.1) (list_any test (to_actor to issued)) (test x.1 || list_any (λ (x : ℕ × Msg). test x.1) issued)
+    (λ y. by_or (test x.1) (list_any test (to_actor to issued)) (rw y at h)
     (λ a. or_left (test x.1) (list_any (λ (x : ℕ × Msg). test x.1) issued) a)
-    (λ b. or_right (test x.1) (list_any (λ (x : ℕ × Msg). test x.1) issued) (to_actor_any test to issued b))
-    (rw y at h))
+    (λ b. or_right (test x.1) (list_any (λ (x : ℕ × Msg). test x.1) issued) (to_actor_any test to issued b)))
     (λ n. or_right (test x.1) (list_any (λ (x : ℕ × Msg). test x.1) issued) (to_actor_any test to issued (rw n at h)))
 
 pub sent_any : (test : Msg → Bool) (from to : ℕ) (s : Story) → list_any test (sent from to s) ≡ true → ever_issued test s ≡ true
 unfolding sent ever_issued
 sent_any test from to [] h = h
 sent_any test from to (e ∷ s) h = by_test (nat_eq e.actor from)
-    (λ y. or_split (list_any test (sent from to s)) (list_any test (to_actor to e.issued)) (list_any (λ (x : ℕ × Msg). test x.1) e.issued || ever_issued test s)
+    (λ y. by_or (list_any test (sent from to s)) (list_any test (to_actor to e.issued)) (sym (list_any-append test (sent from to s) (to_actor to e.issued)) ∙ (rw y at h))
     (λ a. or_right (list_any (λ (x : ℕ × Msg). test x.1) e.issued) (ever_issued test s) (sent_any test from to s a))
-    (λ b. or_left (list_any (λ (x : ℕ × Msg). test x.1) e.issued) (ever_issued test s) (to_actor_any test to e.issued b))
-    (sym (list_any-append test (sent from to s) (to_actor to e.issued)) ∙ (rw y at h)))
+    (λ b. or_left (list_any (λ (x : ℕ × Msg). test x.1) e.issued) (ever_issued test s) (to_actor_any test to e.issued b)))
     (λ n. or_right (list_any (λ (x : ℕ × Msg). test x.1) e.issued) (ever_issued test s) (sent_any test from to s (rw n at h)))
 
 -- a message of a link that passes was issued
@@ -95,18 +64,16 @@ number_most number from to s k m h = ever_most number (number m) s (was_issued (
 -- a stronger test never passed where a weaker one never did
 pub in_weaker : (f g : Msg → Bool) → ((m : Msg) → f m ≡ true → g m ≡ true) → (issued : List (ℕ × Msg)) → list_any (λ (x : ℕ × Msg). f x.1) issued ≡ true → list_any (λ (x : ℕ × Msg). g x.1) issued ≡ true
 in_weaker f g w [] h = h
-in_weaker f g w (x ∷ issued) h = or_split (f x.1) (list_any (λ (x : ℕ × Msg). f x.1) issued) (g x.1 || list_any (λ (x : ℕ × Msg). g x.1) issued)
+in_weaker f g w (x ∷ issued) h = by_or (f x.1) (list_any (λ (x : ℕ × Msg). f x.1) issued) h
     (λ a. or_left (g x.1) (list_any (λ (x : ℕ × Msg). g x.1) issued) (w x.1 a))
     (λ b. or_right (g x.1) (list_any (λ (x : ℕ × Msg). g x.1) issued) (in_weaker f g w issued b))
-    h
 
 pub ever_weaker : (f g : Msg → Bool) → ((m : Msg) → f m ≡ true → g m ≡ true) → (s : Story) → ever_issued f s ≡ true → ever_issued g s ≡ true
 unfolding ever_issued
 ever_weaker f g w [] h = h
-ever_weaker f g w (e ∷ s) h = or_split (list_any (λ (x : ℕ × Msg). f x.1) e.issued) (ever_issued f s) (list_any (λ (x : ℕ × Msg). g x.1) e.issued || ever_issued g s)
+ever_weaker f g w (e ∷ s) h = by_or (list_any (λ (x : ℕ × Msg). f x.1) e.issued) (ever_issued f s) h
     (λ a. or_left (list_any (λ (x : ℕ × Msg). g x.1) e.issued) (ever_issued g s) (in_weaker f g w e.issued a))
     (λ b. or_right (list_any (λ (x : ℕ × Msg). g x.1) e.issued) (ever_issued g s) (ever_weaker f g w s b))
-    h
 
 pub never_weaker : (f g : Msg → Bool) → ((m : Msg) → f m ≡ true → g m ≡ true) → (s : Story) → ever_issued g s ≡ false → ever_issued f s ≡ false
 never_weaker f g w s h = by_test (ever_issued f s)
@@ -122,11 +89,11 @@ in_weaker_none f g w issued h = by_test (list_any (λ (x : ℕ × Msg). f x.1) i
 -- What was told first.
 
 -- what was told first stays
-pub told_stays : {A : Type 0} (tells : Made → Option A) (e : Made) (s : Story) (x : A) → first_told tells s ≡ Some x → first_told tells (e ∷ s) ≡ Some x
+pub told_stays : {A : Type 0} (tells : Transition → Option A) (e : Transition) (s : Story) (x : A) → first_told tells s ≡ Some x → first_told tells (e ∷ s) ≡ Some x
 unfolding first_told
 told_stays tells e s x h = rw h refl
 
-pub told_now : {A : Type 0} (tells : Made → Option A) (e : Made) (s : Story) → first_told tells s ≡ None → first_told tells (e ∷ s) ≡ tells e
+pub told_now : {A : Type 0} (tells : Transition → Option A) (e : Transition) (s : Story) → first_told tells s ≡ None → first_told tells (e ∷ s) ≡ tells e
 unfolding first_told
 told_now tells e s h = rw h refl
 
@@ -134,27 +101,27 @@ pub or_none : {A : Type 0} (x : Option A) → or_else x None ≡ x
 or_none None = refl
 or_none (Some x) = refl
 
-pub same_told : {A : Type 0} (tells : Made → Option A) (e : Made) (s : Story) → tells e ≡ None → first_told tells (e ∷ s) ≡ first_told tells s
+pub same_told : {A : Type 0} (tells : Transition → Option A) (e : Transition) (s : Story) → tells e ≡ None → first_told tells (e ∷ s) ≡ first_told tells s
 unfolding first_told
 same_told tells e s h = rw h (or_none (first_told tells s))
 
 -- Entries that do not pass leave a test as it was, and so do issued messages that do not.
 
-pub ever_same : (test : Made → Bool) (e : Made) (s : Story) → test e ≡ false → ever test (e ∷ s) ≡ ever test s
+pub ever_same : (test : Transition → Bool) (e : Transition) (s : Story) → test e ≡ false → ever test (e ∷ s) ≡ ever test s
 unfolding ever
 ever_same test e s h = rw h refl
 
-pub ever_now : (test : Made → Bool) (e : Made) (s : Story) → test e ≡ true → ever test (e ∷ s) ≡ true
+pub ever_now : (test : Transition → Bool) (e : Transition) (s : Story) → test e ≡ true → ever test (e ∷ s) ≡ true
 unfolding ever
 ever_now test e s h = rw h refl
 
-pub ever_stays : (test : Made → Bool) (e : Made) (s : Story) → ever test s ≡ true → ever test (e ∷ s) ≡ true
+pub ever_stays : (test : Transition → Bool) (e : Transition) (s : Story) → ever test s ≡ true → ever test (e ∷ s) ≡ true
 unfolding ever
 ever_stays test e s h = or_right (test e) (ever test s) h
 
-pub entered_same : (t : ℕ) (e : Made) (s : Story) → enters t e.event ≡ false → entered t (e ∷ s) ≡ entered t s
-entered_same t e s h = ever_same (λ (x : Made). enters t x.event) e s h
+pub entered_same : (t : ℕ) (e : Transition) (s : Story) → enters t e.event ≡ false → entered t (e ∷ s) ≡ entered t s
+entered_same t e s h = ever_same (λ (x : Transition). enters t x.event) e s h
 
-pub same_ever : (test : Msg → Bool) (e : Made) (s : Story) → list_any (λ (x : ℕ × Msg). test x.1) e.issued ≡ false → ever_issued test (e ∷ s) ≡ ever_issued test s
+pub same_ever : (test : Msg → Bool) (e : Transition) (s : Story) → list_any (λ (x : ℕ × Msg). test x.1) e.issued ≡ false → ever_issued test (e ∷ s) ≡ ever_issued test s
 unfolding ever_issued
 same_ever test e s h = rw h refl

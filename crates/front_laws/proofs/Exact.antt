@@ -4,15 +4,16 @@ use Rattle.std.proofs.lemmas.Bool.Decides.{nat_tests}
 use Rattle.std.proofs.lemmas.Int.{ints}
 use Rattle.std.specs.Prelude.{ℤ, pos, ◌+ℤ◌, nat_abs}
 use Rattle.std.specs.Int.Signed.{le_z, lt_z}
+use Rattle.std.proofs.lemmas.Bool.{and_parts}
+use Rattle.list_laws.proofs.Tests.{by_test}
 use Rattle.track_points.specs.Points.{some_below}
-use Rattle.track_points.proofs.Some.{by_test, some_found}
+use Rattle.track_points.proofs.Some.{some_found}
 use Rattle.envelope.specs.declared.fronts.Fronts.{Fronts}
 use Rattle.envelope.specs.Fronts.{kept}
 use Rattle.envelope.proofs.Ranges.{IsRange}
 use Rattle.envelope.proofs.Rules.{are_ends}
 use Rattle.envelope.specs.Ends.{least_left, greatest_left, narrowed}
 use Rattle.definitions.specs.Account.{ruled}
-use Rattle.event_laws.proofs.Notions.{both}
 use Rattle.front_laws.proofs.Shifted.{least_above}
 use Rattle.front_laws.proofs.Ranges.{ruled_is, none_range}
 
@@ -42,7 +43,7 @@ module _ (end : ℕ) (keep fronts : ℕ → Bool) (lo hi : ℕ) (r : IsRange fro
       let no : some_below (λ f. fronts f && keep f) (end + 1) ≡ false = by_test (some_below (λ f. fronts f && keep f) (end + 1))
       (λ y.
       let f = some_found (λ f. fronts f && keep f) (end + 1) y in
-      let b = both (fronts f.at) (keep f.at) f.passes in
+      let b = and_parts (fronts f.at) (keep f.at) f.passes in
       let i = r.is f.at in
       let b0 = b.0 in
       absurd (let n = none f.at (grind (arith, nat_tests)) (grind (arith, nat_tests)) in let z : true ≡ false = sym b.1 ∙ n in cc))

@@ -2,17 +2,18 @@
 use Rattle.std.proofs.Common.{◌≡◌, ℕ, ◌+◌, ◌≤◌, ◌∷◌, Option, Some, Bool, true, false, ◌&&◌, sym, ◌∙◌, ap, arith}
 use Rattle.std.proofs.lemmas.Bool.Decides.{nat_tests}
 use Rattle.std.specs.Prelude.{ℤ, nat_eq, nat_le}
+use Rattle.list_laws.proofs.Tests.{eq_by_order}
 use Rattle.track_points.specs.declared.ids.TrainId.{TrainId}
 use Rattle.envelope.proofs.Ranges.{IsRange}
 use Rattle.definitions.specs.declared.message.Msg.{Msg}
 use Rattle.definitions.specs.declared.message.Msg.TheVariants as msg
 use Rattle.definitions.specs.Track.{Line}
-use Rattle.definitions.specs.Story.{Entry as Made, Story}
+use Rattle.definitions.specs.Story.{Transition, Story}
 use Rattle.definitions.specs.Control.{grants_entry, controls, asked_facts, known_facts}
 use Rattle.definitions.specs.Fronts.{possible_front, fronts_taken, fronts_behind, is_used, least_rear}
 use Rattle.definitions.specs.Fold.{account}
 use Rattle.definitions.specs.Zones.{zone_id}
-use Rattle.sound_laws.proofs.Sound.{FrontsAre, Controlled}
+use Rattle.invariant_laws.proofs.Invariant.{FrontsAre, ControlIs}
 use Rattle.front_laws.proofs.Front_numbers.{takes_by, grown_to, fronts_unused, fronts_left, fronts_kept, least_rear_is}
 use Rattle.event_laws.proofs.Entries.{fronts_granted, fronts_idle, fronts_acted}
 use Rattle.front_laws.proofs.Front_entry.{known_long}
@@ -39,16 +40,13 @@ ends_once line t s g test lo hi e r o =
     range_once (possible_front line (zone_id line) t s) g.lo g.hi lo hi (record { is = g.is }) (record { is = λ p. e p ∙ r.is p }) g.ordered o
 
 -- at the entry both are the length
-pub ends_entered : (line : Line) (t : ℕ) (x : Made) (s : Story) (g : FrontsAre line t (x ∷ s)) → grants_entry (zone_id line) t x ≡ true
+pub ends_entered : (line : Line) (t : ℕ) (x : Transition) (s : Story) (g : FrontsAre line t (x ∷ s)) → grants_entry (zone_id line) t x ≡ true
     → (g.lo ≡ (asked_facts x.took).long) × (g.hi ≡ (asked_facts x.took).long)
 ends_entered line t x s g h =
     let n = (asked_facts x.took).long in
-    ends_once line t (x ∷ s) g (λ p. nat_eq p n) n n (λ p. fronts_granted line t x s (zone_id line) p h) (record { is = λ p. alone p n }) (omega arith)
-  where
-    alone : (p n : ℕ) → nat_eq p n ≡ (nat_le n p && nat_le p n)
-    alone p n = grind (arith, nat_tests)
+    ends_once line t (x ∷ s) g (λ p. nat_eq p n) n n (λ p. fronts_granted line t x s (zone_id line) p h) (record { is = λ p. eq_by_order p n }) (omega arith)
 
-module _ (line : Line) (t : ℕ) (x : Made) (s : Story) (f : FrontsAre line t s) (g : FrontsAre line t (x ∷ s)) (none : grants_entry (zone_id line) t x ≡ false) where
+module _ (line : Line) (t : ℕ) (x : Transition) (s : Story) (f : FrontsAre line t s) (g : FrontsAre line t (x ∷ s)) (none : grants_entry (zone_id line) t x ≡ false) where
   -- an event that is no step of the zone leaves them
   pub ends_idle : nat_eq x.actor (zone_id line) ≡ false → (g.lo ≡ f.lo) × (g.hi ≡ f.hi)
   ends_idle idle =
@@ -80,7 +78,7 @@ module _ (line : Line) (t : ℕ) (x : Made) (s : Story) (f : FrontsAre line t s)
       ends_once line t (x ∷ s) g (fronts_behind line (zone_id line) t s (possible_front line (zone_id line) t s) m) left.lo left.hi (behind from m controlled acts took) n.is n.ordered
 
 -- The least front is the least rear and the length.
-pub least_front_is : (line : Line) (t : ℕ) (s : Story) (f : FrontsAre line t s) → Controlled line t s → least_rear line (zone_id line) t s + (known_facts (zone_id line) t s).long ≡ f.lo
+pub least_front_is : (line : Line) (t : ℕ) (s : Story) (f : FrontsAre line t s) → ControlIs line t s → least_rear line (zone_id line) t s + (known_facts (zone_id line) t s).long ≡ f.lo
 least_front_is line t s f c =
     let r = least_rear_is line t s f in
     let k = known_long t s (known_facts (zone_id line) t s) c.facts in

@@ -16,10 +16,10 @@ use Rattle.definitions.specs.Longest.{longest_end, longest_route}
 use Rattle.definitions.specs.Fronts.{possible_front, grown_fronts, fronts_behind, reported, rear_of, is_used, least_rear, greatest_front}
 use Rattle.definitions.specs.Zones.{zone_id}
 use Rattle.envelope.specs.Ends.{least_left, greatest_left, narrowed}
-use Rattle.sound_laws.proofs.Sound.{FrontsAre}
+use Rattle.invariant_laws.proofs.Invariant.{FrontsAre}
 use Rattle.std.specs.Int.Signed.{le_z}
 use Rattle.std.specs.Prelude.{nat_eq}
-use Rattle.track_points.proofs.Some.{by_test}
+use Rattle.list_laws.proofs.Tests.{by_test}
 use Rattle.definitions.specs.World.{journey}
 use Rattle.definitions.specs.Account.{Account, takes_shrink}
 use Rattle.definitions.specs.Fold.{account, by_answer}
@@ -59,7 +59,7 @@ greatest_front_is line t s f = (fronts_numbers line t s f).greatest
 
 -- Growth.
 
--- where the greatest front may be behind a message
+-- where the greatest front may be after a message
 abbrev pub grown_to : Line → ℕ → Story → Msg → ℕ → ℕ
 grown_to line t s m hi =
     min (hi + farthest_move (known_facts (zone_id line) t s).speed (now_with (zone_id line) s m - now_of (zone_id line) s)) (longest_end line t s)

@@ -4,9 +4,10 @@ use Rattle.std.proofs.lemmas.Bool.Decides.{nat_tests}
 use Rattle.std.proofs.lemmas.Int.{ints}
 use Rattle.std.specs.Prelude.{ℤ, pos, ◌+ℤ◌, nat_eq, nat_le, nat_lt}
 use Rattle.std.specs.Int.Signed.{le_z}
+use Rattle.std.proofs.lemmas.Bool.{and_parts}
+use Rattle.list_laws.proofs.Tests.{by_test}
 use Rattle.track_points.specs.declared.ids.TrainId.{TrainId}
 use Rattle.track_points.specs.Points.{total}
-use Rattle.track_points.proofs.Some.{by_test}
 use Rattle.envelope.specs.Fronts.{farthest_move, kept}
 use Rattle.envelope.proofs.Ranges.{IsRange}
 use Rattle.definitions.specs.Farther.{on_way}
@@ -14,7 +15,7 @@ use Rattle.definitions.specs.declared.event.Event.{Event}
 use Rattle.definitions.specs.declared.message.Msg.{Msg}
 use Rattle.definitions.specs.declared.message.Msg.TheVariants as msg
 use Rattle.definitions.specs.Track.{Line, seg_len}
-use Rattle.definitions.specs.Story.{Entry as Made, Story}
+use Rattle.definitions.specs.Story.{Transition, Story}
 use Rattle.definitions.specs.World.{clock, was_moment, long_of, error_of, entered}
 use Rattle.definitions.specs.Control.{grants_entry, controls, known_facts, now_of, now_with, message_time, took_time}
 use Rattle.definitions.specs.Longest.{longest_end, longest_route}
@@ -22,12 +23,11 @@ use Rattle.definitions.specs.Fronts.{possible_front, grown_fronts, fronts_behind
 use Rattle.definitions.specs.Safe.{IsLineOfOneZone}
 use Rattle.definitions.specs.Steps.{effects}
 use Rattle.definitions.specs.Zones.{zone_id}
-use Rattle.event_laws.proofs.Notions.{both}
 use Rattle.event_laws.proofs.Admitted.{Admitted}
 use Rattle.event_laws.proofs.Moments.{moment_most, moment_zero}
 use Rattle.event_laws.proofs.Stays.{long_stays, entered_stays}
 use Rattle.motion_laws.proofs.Motion.{place_at, Motion, Timed, place_stays}
-use Rattle.sound_laws.proofs.Sound.{step_begin, ReportIs, ReportTrue, FrontsAre, Controlled, Authorized, Sound}
+use Rattle.invariant_laws.proofs.Invariant.{step_begin, ReportIs, ReportTrue, FrontsAre, ControlIs, Authorized, Invariant}
 use Rattle.event_laws.proofs.Does.{took_issued, effect_took}
 use Rattle.front_laws.proofs.Heads.{place_within, longest_mark}
 use Rattle.definitions.specs.World.{journey}
@@ -59,20 +59,20 @@ within_ends lo hi p h = (grind (arith, nat_tests), grind (arith, nat_tests))
 
 -- a train that its zone controls, and an event that does not grant its entry
 module _ (line : Line) (s : Story) (e : Event) (t : ℕ) (one : IsLineOfOneZone line) (admitted : Admitted line s e) (timed : Timed s)
-    (sound : Sound line t s) (grows : (nat_eq (effects line s e).actor (zone_id line) && takes_some t (account line t s) (effects line s e).took) ≡ false → longest_end line t s ≤ longest_end line t (effects line s e ∷ s))
+    (invariant : Invariant line t s) (grows : (nat_eq (effects line s e).actor (zone_id line) && takes_some t (account line t s) (effects line s e).took) ≡ false → longest_end line t s ≤ longest_end line t (effects line s e ∷ s))
     (cut : (nat_eq (effects line s e).actor (zone_id line) && takes_some t (account line t s) (effects line s e).took) ≡ true → (place t s ≤ shrink_end (seg_len line) (journey line t s) (account line t s)) × (shrink_end (seg_len line) (journey line t s) (account line t s) ≤ longest_end line t (effects line s e ∷ s)))
     (controlled : controls (zone_id line) t s ≡ true) (none : grants_entry (zone_id line) t (effects line s e) ≡ false) where
   abbrev z : ℕ
   z = zone_id line
 
-  abbrev x : Made
+  abbrev x : Transition
   x = effects line s e
 
   abbrev fronts : FrontsAre line t s
-  fronts = sound.fronts controlled
+  fronts = invariant.fronts controlled
 
-  abbrev facts_are : Controlled line t s
-  facts_are = sound.authorized.controlled controlled
+  abbrev facts_are : ControlIs line t s
+  facts_are = invariant.authorized.controlled controlled
 
   long_same : long_of t (effects line s e ∷ s) ≡ long_of t s
   long_same = long_stays t x s facts_are.declared
@@ -83,7 +83,7 @@ module _ (line : Line) (s : Story) (e : Event) (t : ℕ) (one : IsLineOfOneZone 
       (λ n. n)
 
   stays_at : (ms : ℕ) → was_moment ms s ≡ true → place_at t ms (effects line s e ∷ s) ≡ place_at t ms s
-  stays_at ms h = place_stays line t ms s e admitted sound.motion facts_are.declared (moment_most ms s h)
+  stays_at ms h = place_stays line t ms s e admitted invariant.motion facts_are.declared (moment_most ms s h)
 
   -- fronts that are a range within those before, or within the longest end, and cover where the train was
   covering : (lo hi : ℕ) → IsRange (possible_front line (zone_id line) t (effects line s e ∷ s)) lo hi → fronts.lo ≤ lo → lo ≤ hi → hi ≤ longest_end line t (effects line s e ∷ s)
@@ -137,14 +137,14 @@ module _ (line : Line) (s : Story) (e : Event) (t : ℕ) (one : IsLineOfOneZone 
 
     at_within : place_at t (now_with (zone_id line) s n) s ≤ longest_end line t s
     at_within =
-        let f = sound.motion.forward (now_with z s n) (clock s) (moment_most (now_with z s n) s next_was) in
-        let p = sound.motion.now_place in
-        let w = place_within line t s one.valid sound controlled in
+        let f = invariant.motion.forward (now_with z s n) (clock s) (moment_most (now_with z s n) s next_was) in
+        let p = invariant.motion.now_place in
+        let w = place_within line t s one.valid invariant controlled in
         omega (arith, f, p, w)
 
     at_least : fronts.lo ≤ place_at t (now_with (zone_id line) s n) s
     at_least =
-        let f = sound.motion.forward (now_of z s) (now_with z s n) (omega arith) in
+        let f = invariant.motion.forward (now_of z s) (now_with z s n) (omega arith) in
         let low = fronts.low in
         omega (arith, f, low)
 
@@ -152,7 +152,7 @@ module _ (line : Line) (s : Story) (e : Event) (t : ℕ) (one : IsLineOfOneZone 
         → place_at t (now_with (zone_id line) s n) s ≤ place_at t ms s + farthest_move (known_facts (zone_id line) t s).speed (now_with (zone_id line) s n - ms)
     slow_from ms was h =
         subst (λ (v : ℕ). place_at t (now_with z s n) s ≤ place_at t ms s + farthest_move v (now_with z s n - ms)) (known_speed t s (known_facts z t s) facts_are.facts)
-        (sound.motion.slow ms (now_with z s n) was next_was h)
+        (invariant.motion.slow ms (now_with z s n) was next_was h)
 
     at_most : place_at t (now_with (zone_id line) s n) s ≤ grown_to line t s n fronts.hi
     at_most =
@@ -189,8 +189,8 @@ module _ (line : Line) (s : Story) (e : Event) (t : ℕ) (one : IsLineOfOneZone 
         let p = at_is in
         let a = at_least in
         let b = at_most in
-        let f = sound.motion.forward (now_with z s n) (clock s) (moment_most (now_with z s n) s next_was) in
-        let q = sound.motion.now_place in
+        let f = invariant.motion.forward (now_with z s n) (clock s) (moment_most (now_with z s n) s next_was) in
+        let q = invariant.motion.now_place in
         let go = g.ordered in
         let r = cut_ruled (longest_end line t s) (λ p. nat_le p x0) (grown_fronts line z t s (possible_front line z t s) n) fronts.lo top g.is g.ordered g.within x0 refl (omega (arith, a, f, q, c0)) in
         let u = shape (grown_fronts line z t s (possible_front line z t s) n) in
@@ -207,15 +207,15 @@ module _ (line : Line) (s : Story) (e : Event) (t : ℕ) (one : IsLineOfOneZone 
     on_the_way : (nat_eq u.0 t ≡ true) × (mark < length (longest_route line t s))
     on_the_way =
         let way = on_way (seg_len line) (longest_route line t s) (rear_of line z t s (possible_front line z t s)) (longest_end line t s) mark in
-        let a = both (nat_eq u.0 t) (controls z t s && way) used in
-        let b = both (controls z t s) way a.1 in
+        let a = and_parts (nat_eq u.0 t) (controls z t s && way) used in
+        let b = and_parts (controls z t s) way a.1 in
         (a.0, marked (length (longest_route line t s)) _ b.1)
       where
         marked : (k : ℕ) (b : Bool) → (nat_lt mark k && b) ≡ true → mark < k
-        marked k b h = let y = both (nat_lt mark k) b h in let t = y.0 in grind (arith, nat_tests)
+        marked k b h = let y = and_parts (nat_lt mark k) b h in let t = y.0 in grind (arith, nat_tests)
 
     report_is : ReportIs line t s time mark offset
-    report_is = took_issued (ReportTrue line t s) line s sound.reports e from report took on_the_way.0
+    report_is = took_issued (ReportTrue line t s) line s invariant.reports e from report took on_the_way.0
 
     -- the place that it names is as near to where the train was as the train knows
     near : (le_z (named_place line t s mark offset) (pos (place_at t time s + (known_facts (zone_id line) t s).error)) ≡ true)
@@ -223,7 +223,7 @@ module _ (line : Line) (s : Story) (e : Event) (t : ℕ) (one : IsLineOfOneZone 
     near =
         let r = report_is in
         estimate (step_begin line t s mark) (total (seg_len line) (take mark (longest_route line t s))) (place_at t time s) (error_of t s) (known_facts z t s).error offset
-        (longest_mark line t s one.valid sound controlled mark r.reached) (known_error t s (known_facts z t s) facts_are.facts) r.least r.most
+        (longest_mark line t s one.valid invariant controlled mark r.reached) (known_error t s (known_facts z t s) facts_are.facts) r.least r.most
 
     left_true : kept (grown_fronts line (zone_id line) t s (possible_front line (zone_id line) t s) (msg.Report u time mark offset integrity))
         (named_place line t s mark offset) (known_facts (zone_id line) t s).error (moved_since line t s (msg.Report u time mark offset integrity) time) integrity
@@ -238,7 +238,7 @@ module _ (line : Line) (s : Story) (e : Event) (t : ℕ) (one : IsLineOfOneZone 
         let was = time_was from report took acts in
         true_kept (grown_fronts line z t s (possible_front line z t s) report) (named_place line t s mark offset) (known_facts z t s).error (moved_since line t s report time) integrity
         (place_at t time s) p (r ∙ between fronts.lo (grown_to line t s report fronts.hi) p a b) near.0 near.1
-        (sound.motion.forward time (now_with z s report) h) (slow_from from report took acts time was h)
+        (invariant.motion.forward time (now_with z s report) h) (slow_from from report took acts time was h)
 
     left_at : fronts_behind line (zone_id line) t s (possible_front line (zone_id line) t s) (msg.Report u time mark offset integrity)
         (place_at t (now_with (zone_id line) s (msg.Report u time mark offset integrity)) s) ≡ true
@@ -249,7 +249,7 @@ module _ (line : Line) (s : Story) (e : Event) (t : ℕ) (one : IsLineOfOneZone 
         let m = at_most from report took acts in
         let keep = kept (λ y. true) (named_place line t s mark offset) (known_facts z t s).error (moved_since line t s report time) integrity in
         let v = (ruled_is (longest_end line t s) keep (grown_fronts line z t s (possible_front line z t s) report) fronts.lo (grown_to line t s report fronts.hi) g.is g.ordered g.within).left in
-        let k = (both (grown_fronts line z t s (possible_front line z t s) report p) (keep p) left_true).1 in
+        let k = (and_parts (grown_fronts line z t s (possible_front line z t s) report p) (keep p) left_true).1 in
         let w = v.each p l m k in
         rw used (v.is.is p ∙ between v.lo2 v.hi2 p w.0 w.1)
 
@@ -299,14 +299,14 @@ pub fronts_start : (line : Line) (t : ℕ) → controls (zone_id line) t [] ≡ 
 unfolding controls
 fronts_start line t c = absurd cc
 
-pub fronts_step : (line : Line) (s : Story) (e : Event) → IsLineOfOneZone line → Admitted line s e → Timed s → Timed (effects line s e ∷ s) → ((t : ℕ) → Sound line t s)
+pub fronts_step : (line : Line) (s : Story) (e : Event) → IsLineOfOneZone line → Admitted line s e → Timed s → Timed (effects line s e ∷ s) → ((t : ℕ) → Invariant line t s)
     → (t : ℕ) → Motion t (effects line s e ∷ s) → Authorized line t (effects line s e ∷ s)
     → (controls (zone_id line) t s ≡ true → (nat_eq (effects line s e).actor (zone_id line) && takes_some t (account line t s) (effects line s e).took) ≡ false → longest_end line t s ≤ longest_end line t (effects line s e ∷ s))
     → (controls (zone_id line) t s ≡ true → (nat_eq (effects line s e).actor (zone_id line) && takes_some t (account line t s) (effects line s e).took) ≡ true → (place t s ≤ shrink_end (seg_len line) (journey line t s) (account line t s)) × (shrink_end (seg_len line) (journey line t s) (account line t s) ≤ longest_end line t (effects line s e ∷ s)))
     → controls (zone_id line) t (effects line s e ∷ s) ≡ true → FrontsAre line t (effects line s e ∷ s)
-fronts_step line s e one admitted timed timed_next sound t m auth grows cut c =
+fronts_step line s e one admitted timed timed_next invariant t m auth grows cut c =
     by_test (grants_entry (zone_id line) t (effects line s e))
-    (λ g. entry_fronts line s e t (sound t) m auth c g)
+    (λ g. entry_fronts line s e t (invariant t) m auth c g)
     (λ none.
     let before = controls_before (zone_id line) t (effects line s e) s none c in
-    fronts_on line s e t one admitted timed (sound t) (grows before) (cut before) before none)
+    fronts_on line s e t one admitted timed (invariant t) (grows before) (cut before) before none)

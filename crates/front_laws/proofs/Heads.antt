@@ -1,9 +1,9 @@
 -- Where the head of a train is on its journey, and how far its authorities reach.
 use Rattle.std.proofs.Common.{◌≡◌, ℕ, ◌+◌, ◌-◌, ◌<◌, ◌≤◌, List, ◌++◌, length, take, true, refl, sym, ◌∙◌, ap, arith}
 use Rattle.std.proofs.lemmas.List.{take-append-le}
+use Rattle.list_laws.proofs.Tests.{by_test}
 use Rattle.track_points.specs.declared.ids.DirSeg.{DirSeg}
 use Rattle.track_points.specs.Points.{total, place_of_last}
-use Rattle.track_points.proofs.Some.{by_test}
 use Rattle.definitions.specs.Track.{Line, seg_len}
 use Rattle.definitions.specs.Rules.{is_line}
 use Rattle.definitions.specs.Premises.{head_offset}
@@ -16,19 +16,19 @@ use Rattle.motion_laws.proofs.Motion.{place}
 use Rattle.way_laws.proofs.Cut.{cut_some, cut_total, cut_front, cut_end}
 use Rattle.way_laws.proofs.Cuts.{before_last}
 use Rattle.journey_laws.proofs.Journey.{journey_ends}
-use Rattle.sound_laws.proofs.Sound.{step_begin, Controlled, Sound}
-use Rattle.sound_laws.proofs.One_route.{OneRoute, one_route}
+use Rattle.invariant_laws.proofs.Invariant.{step_begin, ControlIs, Invariant}
+use Rattle.invariant_laws.proofs.One_route.{OneRoute, one_route}
 
 -- A train that its zone controls.
-module _ (line : Line) (t : ℕ) (s : Story) (valid : is_line line ≡ true) (sound : Sound line t s) (controlled : controls (zone_id line) t s ≡ true) where
-  abbrev pub control_of : Controlled line t s
-  control_of = sound.authorized.controlled controlled
+module _ (line : Line) (t : ℕ) (s : Story) (valid : is_line line ≡ true) (invariant : Invariant line t s) (controlled : controls (zone_id line) t s ≡ true) where
+  abbrev pub control_of : ControlIs line t s
+  control_of = invariant.authorized.controlled controlled
 
   pub place_on : entered t s ≡ true → place t s ≡ head t s
   place_on on = rw on refl
 
   one : OneRoute line t s (longest_route line t s) (longest_end line t s)
-  one = one_route line t s sound.authorized controlled sound.motion
+  one = one_route line t s invariant.authorized controlled invariant.motion
 
   -- a journey has a step, and reaches to the head
   pub journey_some : 0 < length (journey line t s)

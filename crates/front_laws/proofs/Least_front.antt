@@ -2,14 +2,16 @@
 use Rattle.std.proofs.Common.{◌≡◌, ℕ, suc, ◌+◌, ◌-◌, ◌≤◌, ◌∷◌, Option, Some, None, Bool, true, false, ◌&&◌, sym, ◌∙◌, arith}
 use Rattle.std.proofs.lemmas.Bool.Decides.{nat_tests}
 use Rattle.std.specs.Prelude.{nat_eq, nat_le}
+use Rattle.std.proofs.lemmas.Bool.{and_parts}
+use Rattle.list_laws.proofs.Tests.{by_test}
 use Rattle.track_points.specs.Points.{some_below}
-use Rattle.track_points.proofs.Some.{by_test, some_found}
+use Rattle.track_points.proofs.Some.{some_found}
 use Rattle.envelope.specs.Fronts.{farthest_move, grown}
 use Rattle.definitions.specs.declared.message.Msg.{Msg}
 use Rattle.definitions.specs.declared.message.Msg.TheVariants as msg
 use Rattle.definitions.specs.Track.{Line, seg_len}
 use Rattle.definitions.specs.Numbers.{first}
-use Rattle.definitions.specs.Story.{Entry as Made, Story}
+use Rattle.definitions.specs.Story.{Transition, Story}
 use Rattle.definitions.specs.World.{journey}
 use Rattle.definitions.specs.Control.{grants_entry, controls, known_facts, now_of, now_with}
 use Rattle.definitions.specs.Farther.{kept_or_all}
@@ -17,7 +19,6 @@ use Rattle.definitions.specs.Account.{ruled, takes_shrink}
 use Rattle.definitions.specs.Fold.{account, by_answer}
 use Rattle.definitions.specs.Longest.{longest_end}
 use Rattle.definitions.specs.Fronts.{grown_fronts, is_used, reported, fronts_behind, fronts_taken, possible_front}
-use Rattle.event_laws.proofs.Notions.{both}
 use Rattle.way_laws.proofs.First.{first_is, first_at_most}
 use Rattle.event_laws.proofs.Entries.{fronts_acted, fronts_idle, fronts_uncontrolled}
 
@@ -26,9 +27,9 @@ AllFrom fronts lo = (f : ℕ) → fronts f ≡ true → lo ≤ f
 
 grown_from : (fronts : ℕ → Bool) (lo moved limit : ℕ) → AllFrom fronts lo → AllFrom (grown fronts moved limit) lo
 grown_from fronts lo moved limit all g h =
-    let a = both (nat_le g limit) (some_below (λ f. fronts f && nat_le g (f + moved)) (suc g)) h in
+    let a = and_parts (nat_le g limit) (some_below (λ f. fronts f && nat_le g (f + moved)) (suc g)) h in
     let r = some_found (λ f. fronts f && nat_le g (f + moved)) (suc g) a.1 in
-    let b = both (fronts r.at) (nat_le g (r.at + moved)) r.passes in
+    let b = and_parts (fronts r.at) (nat_le g (r.at + moved)) r.passes in
     let c = all r.at b.0 in
     let d = r.below in
     omega arith
@@ -38,8 +39,8 @@ ruled_from : (end lo : ℕ) (keep fronts : ℕ → Bool) → AllFrom fronts lo �
 ruled_from end lo keep fronts all g h =
     let test = kept_or_all end (λ f. fronts f && keep f) fronts in
     let n = end + 1 in
-    let a = both (some_below test n) _ h in
-    let b = both (nat_le (first test n) g) _ a.1 in
+    let a = and_parts (some_below test n) _ h in
+    let b = and_parts (nat_le (first test n) g) _ a.1 in
     let b0 = b.0 in
     let r = some_found test n a.0 in
     let m = first_at_most test n r.at r.passes in
@@ -50,7 +51,7 @@ ruled_from end lo keep fronts all g h =
   where
     kept_one : (p : ℕ) → kept_or_all end (λ f. fronts f && keep f) fronts p ≡ true → fronts p ≡ true
     kept_one p e = by_test (some_below (λ f. fronts f && keep f) (end + 1))
-        (λ y. let k : (fronts p && keep p) ≡ true = rw y at e in (both (fronts p) (keep p) k).0)
+        (λ y. let k : (fronts p && keep p) ≡ true = rw y at e in (and_parts (fronts p) (keep p) k).0)
         (λ n. let k : fronts p ≡ true = rw n at e in k)
 
 module _ (line : Line) (z t : ℕ) (s : Story) (lo : ℕ) where
@@ -75,7 +76,7 @@ module _ (line : Line) (z t : ℕ) (s : Story) (lo : ℕ) where
   taken_from fronts None all = all
   taken_from fronts (Some x) all = behind_from fronts x.1 all
 
-  pub fronts_from : (x : Made) → grants_entry z t x ≡ false → AllFrom (possible_front line z t s) lo → AllFrom (possible_front line z t (x ∷ s)) lo
+  pub fronts_from : (x : Transition) → grants_entry z t x ≡ false → AllFrom (possible_front line z t s) lo → AllFrom (possible_front line z t (x ∷ s)) lo
   fronts_from x refused all g h =
       by_test (nat_eq x.actor z)
       (λ acts. by_test (controls z t s)

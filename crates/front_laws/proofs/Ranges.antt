@@ -2,8 +2,10 @@
 use Rattle.std.proofs.Common.{◌≡◌, ℕ, zero, suc, ◌+◌, ◌<◌, ◌≤◌, min, Bool, true, false, ◌&&◌, refl, sym, ◌∙◌, ap, subst, arith, nat_eq}
 use Rattle.std.proofs.Math.Path.{fun_ext}
 use Rattle.std.proofs.lemmas.Bool.Decides.{nat_tests}
+use Rattle.std.proofs.lemmas.Bool.{and_parts}
+use Rattle.list_laws.proofs.Tests.{by_test}
 use Rattle.track_points.specs.Points.{some_below}
-use Rattle.track_points.proofs.Some.{by_test, some_at, some_found}
+use Rattle.track_points.proofs.Some.{some_at, some_found}
 use Rattle.envelope.specs.declared.fronts.Fronts.{Fronts}
 use Rattle.envelope.specs.Fronts.{is_front, grown}
 use Rattle.envelope.proofs.Ranges.{IsRange}
@@ -91,14 +93,6 @@ module _ (end : ℕ) (keep fronts : ℕ → Bool) (lo hi : ℕ) (r : IsRange fro
   of_range : (p : ℕ) → lo ≤ p → p ≤ hi → fronts p ≡ true
   of_range p a b = let i = r.is p in grind (arith, nat_tests)
 
-  both_pass : (a b : Bool) → (a && b) ≡ true → a ≡ true
-  both_pass true b e = refl
-  both_pass false b e = absurd cc
-
-  second_pass : (a b : Bool) → (a && b) ≡ true → b ≡ true
-  second_pass true b e = e
-  second_pass false b e = absurd cc
-
   some_left : some_below (λ f. fronts f && keep f) (end + 1) ≡ true → Ruled end keep fronts lo hi
   some_left some =
       let n = end + 1 in
@@ -109,8 +103,8 @@ module _ (end : ℕ) (keep fronts : ℕ → Bool) (lo hi : ℕ) (r : IsRange fro
       let at_most = first_at_most rule n found.at found.passes in
       let b = found.below in
       let below : first rule n < n = omega (arith, at_most, b) in
-      let a = in_range (first rule n) (both_pass (fronts (first rule n)) (keep (first rule n)) (f.there below)) in
-      let z = in_range (last rule n) (both_pass (fronts (last rule n)) (keep (last rule n)) l.there) in
+      let a = in_range (first rule n) (and_parts (fronts (first rule n)) (keep (first rule n)) (f.there below)).0 in
+      let z = in_range (last rule n) (and_parts (fronts (last rule n)) (keep (last rule n)) l.there).0 in
       let fl = first_at_most rule n (last rule n) l.there in
       record {
         left = record {
@@ -125,7 +119,7 @@ module _ (end : ℕ) (keep fronts : ℕ → Bool) (lo hi : ℕ) (r : IsRange fro
               let t : rule p ≡ true = rw (e, k) refl in
               (first_at_most rule n p t, l.most p (omega (arith, y, h)) t);
         };
-        ends = λ p x y k. (second_pass (fronts (first rule n)) (keep (first rule n)) (f.there below), second_pass (fronts (last rule n)) (keep (last rule n)) l.there);
+        ends = λ p x y k. ((and_parts (fronts (first rule n)) (keep (first rule n)) (f.there below)).1, (and_parts (fronts (last rule n)) (keep (last rule n)) l.there).1);
       }
 
   pub none_range : some_below (λ f. fronts f && keep f) (end + 1) ≡ false → IsRange (ruled end keep fronts) lo hi

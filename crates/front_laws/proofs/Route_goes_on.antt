@@ -3,13 +3,13 @@
 use Rattle.std.proofs.Common.{◌≡◌, ℕ, ◌≤◌, List, [], ◌∷◌, length, Option, Some, None, true, false, refl, sym, ◌∙◌, ap, subst, arith}
 use Rattle.std.proofs.lemmas.Bool.Decides.{nat_tests}
 use Rattle.std.specs.Prelude.{nat_eq, nat_lt}
+use Rattle.list_laws.proofs.Tests.{by_test}
 use Rattle.track_points.specs.declared.ids.DirSeg.{DirSeg}
 use Rattle.track_points.specs.Points.{Lengths, steps_to}
-use Rattle.track_points.proofs.Some.{by_test}
 use Rattle.definitions.specs.declared.message.Msg.{Msg}
 use Rattle.definitions.specs.declared.message.Msg.TheVariants as msg
 use Rattle.definitions.specs.Track.{Line, seg_len}
-use Rattle.definitions.specs.Story.{Entry as Made, Story}
+use Rattle.definitions.specs.Story.{Transition, Story}
 use Rattle.definitions.specs.World.{head, Authority, authority_end, journey, is_auth}
 use Rattle.definitions.specs.Control.{controls, last_issued}
 use Rattle.definitions.specs.Farther.{end_or_0}
@@ -19,9 +19,9 @@ use Rattle.definitions.specs.Longest.{longest_end, longest_route}
 use Rattle.definitions.specs.Zones.{zone_id}
 use Rattle.motion_laws.proofs.Motion.{Motion}
 use Rattle.event_laws.proofs.Issued.{AllIn, in_all_weaker, AuthHas, auth_without, NoAuth}
-use Rattle.sound_laws.proofs.Sound.{end_read, AuthorityIs, SomeIs, Controlled, Authorized}
-use Rattle.sound_laws.proofs.One_route.{newest_end, newest_route}
-use Rattle.sound_laws.proofs.First_steps.{FirstSteps, end_same, route_same, read_same, controlled_first}
+use Rattle.invariant_laws.proofs.Invariant.{end_read, AuthorityIs, SomeIs, ControlIs, Authorized}
+use Rattle.invariant_laws.proofs.One_route.{newest_end, newest_route}
+use Rattle.invariant_laws.proofs.First_steps.{FirstSteps, end_same, route_same, read_same, controlled_first}
 use Rattle.event_laws.proofs.Entries.{account_next, issued_is}
 use Rattle.front_laws.proofs.Unshrunk.{Counts, account_taken, taken_counts}
 
@@ -69,8 +69,8 @@ module _ (Q : Authority → Type 0) (len : Lengths) (steps : List DirSeg) (t : �
   all_have [] v n q h = h
   all_have (x ∷ issued) v n q h = all_have issued (issues_one len steps t x.1 v) n q.1 (one_has x.1 v n q.0 h)
 
--- One entry further.
-module _ (line : Line) (t : ℕ) (x : Made) (s : Story) (none : (account line t s).shrink ≡ 0) where
+-- One transition further.
+module _ (line : Line) (t : ℕ) (x : Transition) (s : Story) (none : (account line t s).shrink ≡ 0) where
   abbrev taken : Account
   taken = account_taken line t x s none
 
@@ -92,19 +92,19 @@ module _ (line : Line) (t : ℕ) (x : Made) (s : Story) (none : (account line t 
       (subst (λ (r : ℕ → Option Authority). SomeIs Q (r n)) (sym counting.reads) h))
 
 -- a number ends where it did, as the first steps of the journey stay
-pub read_stays : (line : Line) (t : ℕ) (x : Made) (s : Story) → Authorized line t s → FirstSteps line t x s → (n : ℕ) → n ≤ last_issued t s → end_read line t (x ∷ s) n ≡ end_read line t s n
+pub read_stays : (line : Line) (t : ℕ) (x : Transition) (s : Story) → Authorized line t s → FirstSteps line t x s → (n : ℕ) → n ≤ last_issued t s → end_read line t (x ∷ s) n ≡ end_read line t s n
 read_stays line t x s k first n le =
     let old = (account line t s).reads n in
     ap (λ (r : Option Authority). end_or_0 (seg_len line) (journey line t (x ∷ s)) r) (reads_stay line t x s k.unshrunk n le)
     ∙ read_same line t x s first old (some_weaker (AuthorityIs line t s) (λ a. a.mark ≤ length (journey line t s)) (λ a i. i.mark) old (k.reads n))
 
 -- The longest route of a controlled train goes on.
-module _ (line : Line) (t : ℕ) (s : Story) (x : Made) (motion : Motion t s) (k : Authorized line t s) (k2 : Authorized line t (x ∷ s)) (c : controls (zone_id line) t s ≡ true) (c2 : controls (zone_id line) t (x ∷ s) ≡ true)
+module _ (line : Line) (t : ℕ) (s : Story) (x : Transition) (motion : Motion t s) (k : Authorized line t s) (k2 : Authorized line t (x ∷ s)) (c : controls (zone_id line) t s ≡ true) (c2 : controls (zone_id line) t (x ∷ s) ≡ true)
     (heads : head t s ≤ head t (x ∷ s)) where
-  abbrev old : Controlled line t s
+  abbrev old : ControlIs line t s
   old = k.controlled c
 
-  abbrev new : Controlled line t (x ∷ s)
+  abbrev new : ControlIs line t (x ∷ s)
   new = k2.controlled c2
 
   first : FirstSteps line t x s

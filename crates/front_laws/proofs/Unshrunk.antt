@@ -1,15 +1,15 @@
--- What one entry makes of the account of a train none of whose authorities is a shrink: more of its numbers count, and what is issued is read.
+-- What one transition makes of the account of a train none of whose authorities is a shrink: more of its numbers count, and what is issued is read.
 use Rattle.std.proofs.Common.{◌≡◌, ℕ, ◌<◌, ◌≤◌, List, [], ◌∷◌, Option, Some, None, Bool, true, false, ◌&&◌, refl, ◌∙◌, ap, arith, if◌then◌else◌}
 use Rattle.std.proofs.lemmas.Bool.Decides.{nat_tests}
 use Rattle.std.specs.Prelude.{nat_eq, nat_le, nat_lt}
+use Rattle.list_laws.proofs.Tests.{by_test}
 use Rattle.track_points.specs.declared.ids.DirSeg.{DirSeg}
 use Rattle.track_points.specs.declared.ids.TrainId.{TrainId}
 use Rattle.track_points.specs.Points.{Lengths}
-use Rattle.track_points.proofs.Some.{by_test}
 use Rattle.definitions.specs.declared.message.Msg.{Msg}
 use Rattle.definitions.specs.declared.message.Msg.TheVariants as msg
 use Rattle.definitions.specs.Track.{Line, seg_len}
-use Rattle.definitions.specs.Story.{Entry as Made, Story}
+use Rattle.definitions.specs.Story.{Transition, Story}
 use Rattle.definitions.specs.World.{Authority, authority_end, journey}
 use Rattle.definitions.specs.Control.{grants_entry, controls, now_with, last_issued}
 use Rattle.definitions.specs.Account.{Account, end_of, least_of, issues, answered, passed, with_fronts, with_at}
@@ -105,7 +105,7 @@ module _ (len : Lengths) (z t : ℕ) (s : Story) (steps : List DirSeg) (v : Acco
   some_uncounted None h = refl
   some_uncounted (Some y) h = heard_counted y.1 ∙ ap (λ (w : Account). w.counted) (uncounted t y.0 y.1 v h)
 
-acts_counts : (len : Lengths) (t : ℕ) (e : Made) (s : Story) (steps : List DirSeg) (v : Account) → v.shrink ≡ 0 → Counts v (acts len t e s steps v)
+acts_counts : (len : Lengths) (t : ℕ) (e : Transition) (s : Story) (steps : List DirSeg) (v : Account) → v.shrink ≡ 0 → Counts v (acts len t e s steps v)
 acts_counts len t e s steps v none = by_test (grants_entry e.actor t e)
     (λ g. rw g (record { shrink = none; reads = refl; issued = refl; most = λ h. h }))
     (λ g. by_test (controls e.actor t s)
@@ -130,7 +130,7 @@ issues_longer len steps number a v h far =
     let longer : nat_lt (authority_end len steps a) (end_of len steps v) ≡ false = grind (arith, nat_tests) in
     rw (new, longer) refl
 
-module _ (line : Line) (t : ℕ) (x : Made) (s : Story) (none : (account line t s).shrink ≡ 0) where
+module _ (line : Line) (t : ℕ) (x : Transition) (s : Story) (none : (account line t s).shrink ≡ 0) where
   abbrev len : Lengths
   len = seg_len line
 

@@ -1,8 +1,9 @@
 -- The journey of a controlled train has the steps before its way: the least rear is behind the train.
 use Rattle.std.proofs.Common.{◌≡◌, ℕ, ◌+◌, ◌-◌, ◌≤◌, List, [], ◌∷◌, take, true, refl, sym, ◌∙◌, ap, arith}
+use Rattle.std.proofs.lemmas.Bool.{and_parts}
+use Rattle.list_laws.proofs.Tests.{by_test}
 use Rattle.track_points.specs.declared.ids.DirSeg.{DirSeg}
 use Rattle.track_points.specs.Points.{Lengths}
-use Rattle.track_points.proofs.Some.{by_test}
 use Rattle.definitions.specs.Track.{Line, seg_len}
 use Rattle.definitions.specs.Rules.{is_line}
 use Rattle.definitions.specs.Story.{Story}
@@ -12,20 +13,19 @@ use Rattle.definitions.specs.Longest.{longest_route}
 use Rattle.definitions.specs.Fronts.{least_rear}
 use Rattle.definitions.specs.Ways.{steps_behind}
 use Rattle.definitions.specs.Zones.{zone_id}
-use Rattle.way_laws.proofs.Lines.{both}
 use Rattle.way_laws.proofs.Track.{is_long, all_long, long_steps}
 use Rattle.way_laws.proofs.Between_places.{behind_take}
 use Rattle.motion_laws.proofs.Motion.{place, Motion}
-use Rattle.sound_laws.proofs.Sound.{Controlled, FrontsAre, Authorized}
+use Rattle.invariant_laws.proofs.Invariant.{ControlIs, FrontsAre, Authorized}
 use Rattle.front_laws.proofs.Front_numbers.{least_rear_is}
 
 none_behind : (len : Lengths) (steps : List DirSeg) → all_long len steps ≡ true → steps_behind len steps 0 ≡ 0
 unfolding steps_behind
 none_behind len [] h = refl
-none_behind len (st ∷ steps) h = rw (both (is_long len st) (all_long len steps) h).0 refl
+none_behind len (st ∷ steps) h = rw (and_parts (is_long len st) (all_long len steps) h).0 refl
 
 module _ (line : Line) (t : ℕ) (s : Story) (m : Motion t s) (k : Authorized line t s) (control : controls (zone_id line) t s ≡ true) (f : FrontsAre line t s) where
-  abbrev c : Controlled line t s
+  abbrev c : ControlIs line t s
   c = k.controlled control
 
   pub rear_before_least : least_rear line (zone_id line) t s ≡ f.lo - long_of t s

@@ -3,14 +3,15 @@ use Rattle.std.proofs.Common.{◌≡◌, ℕ, ◌+◌, ◌<◌, ◌≤◌, List,
 use Rattle.std.proofs.lemmas.List.{take-append-le}
 use Rattle.std.specs.Prelude.{is_some}
 use Rattle.std.specs.List.{list_all}
+use Rattle.std.proofs.lemmas.Option.{same_Some}
+use Rattle.list_laws.proofs.Tests.{by_test}
 use Rattle.track_points.specs.declared.ids.DirSeg.{DirSeg}
 use Rattle.track_points.specs.Points.{total, steps_to}
-use Rattle.track_points.proofs.Some.{by_test}
 use Rattle.definitions.specs.Track.{Line, seg_len, last_step, next_step, track_from, track_to, led}
 use Rattle.definitions.specs.Rules.{is_line}
 use Rattle.definitions.specs.Premises.{on_line}
 use Rattle.definitions.specs.Ways.{chained}
-use Rattle.definitions.specs.Story.{Entry as Made, Story, first_told}
+use Rattle.definitions.specs.Story.{Transition, Story, first_told}
 use Rattle.definitions.specs.World.{entry_in, first_entry, head, goes_on, begun, journey}
 use Rattle.event_laws.proofs.Still.{head_still}
 use Rattle.way_laws.proofs.Cut.{cut_first, cut_some, cut_front}
@@ -20,9 +21,6 @@ use Rattle.journey_laws.proofs.Led.{led_track, led_first, led_on}
 
 some_of : {A : Type 0} (x : Option A) (a : A) → x ≡ Some a → is_some x ≡ true
 some_of x a h = rw h refl
-
-some_one : {A : Type 0} (a b : A) → Some a ≡ Some b → a ≡ b
-some_one a b h = cc
 
 begun_some : (x : Option DirSeg) (steps : List DirSeg) → 0 < length steps → begun x steps ≡ steps
 begun_some None steps h = refl
@@ -55,7 +53,7 @@ pub led_still : (line : Line) (steps : List DirSeg) (h : ℕ) → 0 < length ste
 led_still line [] h some le ends = absurd (omega arith)
 led_still line (st ∷ steps) h some le ends = cut_more (seg_len line) (st ∷ steps) (track_from line (next_step line (last_step (st ∷ steps))) (h + 1)) h some le ∙ ends
 
-pub journey_goes_on : (line : Line) (t : ℕ) (e : Made) (s : Story) → 0 < length (journey line t s) → head t s ≤ total (seg_len line) (journey line t s) → head t s ≤ head t (e ∷ s)
+pub journey_goes_on : (line : Line) (t : ℕ) (e : Transition) (s : Story) → 0 < length (journey line t s) → head t s ≤ total (seg_len line) (journey line t s) → head t s ≤ head t (e ∷ s)
     → steps_to (seg_len line) (journey line t (e ∷ s)) (head t s) ≡ journey line t s
 unfolding journey
 journey_goes_on line t e s some room le =
@@ -66,14 +64,14 @@ journey_goes_on line t e s some room le =
     (λ n. rw n (journey_ends line t s))
 
 -- it is led on, also where the head stays
-pub journey_led : (line : Line) (t : ℕ) (e : Made) (s : Story) → 0 < length (journey line t s) → head t s ≤ total (seg_len line) (journey line t s) → journey line t (e ∷ s) ≡ led (seg_len line) line (journey line t s) (head t (e ∷ s))
+pub journey_led : (line : Line) (t : ℕ) (e : Transition) (s : Story) → 0 < length (journey line t s) → head t s ≤ total (seg_len line) (journey line t s) → journey line t (e ∷ s) ≡ led (seg_len line) line (journey line t s) (head t (e ∷ s))
 unfolding journey
 journey_led line t e s some room = by_test (goes_on t e.event)
     (λ y. let b = begun_some (entry_in t e.event) (journey line t s) some in rw (y, b) refl)
     (λ n. let k = head_still t e s n in rw (n, k) (sym (led_still line (journey line t s) (head t s) some room (journey_ends line t s))))
 
 -- its first steps stay
-pub first_steps : (line : Line) (t : ℕ) (e : Made) (s : Story) (n : ℕ) → 0 < length (journey line t s) → head t s ≤ total (seg_len line) (journey line t s) → head t s ≤ head t (e ∷ s) → n ≤ length (journey line t s)
+pub first_steps : (line : Line) (t : ℕ) (e : Transition) (s : Story) (n : ℕ) → 0 < length (journey line t s) → head t s ≤ total (seg_len line) (journey line t s) → head t s ≤ head t (e ∷ s) → n ≤ length (journey line t s)
     → take n (journey line t (e ∷ s)) ≡ take n (journey line t s)
 first_steps line t e s n some room le few =
     let f = cut_front (seg_len line) (journey line t (e ∷ s)) (head t s) in
@@ -112,7 +110,7 @@ journey_begins line t st (e ∷ s) h = by_first (first_entry t s) refl (journey_
         let l = led_begins line st [] (head t (e ∷ s)) in
         (l.0, rw (y, none, asks) l.1)
     by_first (Some a) is f =
-        let same : a ≡ st = some_one a st (rw is at h) in
+        let same : a ≡ st = same_Some a st (rw is at h) in
         let i = f (is ∙ ap (λ (x : DirSeg). Some x) same) in
         by_test (goes_on t e.event)
         (λ y.
@@ -122,7 +120,7 @@ journey_begins line t st (e ∷ s) h = by_first (first_entry t s) refl (journey_
         (λ n. (i.0, rw n i.1))
 
 -- along a route of joined steps it stays the route up to the head
-pub journey_goes : (line : Line) (t : ℕ) (e : Made) (s : Story) (kept : List DirSeg) → is_line line ≡ true → 0 < length kept → chained line kept ≡ true → list_all (on_line line) kept ≡ true
+pub journey_goes : (line : Line) (t : ℕ) (e : Transition) (s : Story) (kept : List DirSeg) → is_line line ≡ true → 0 < length kept → chained line kept ≡ true → list_all (on_line line) kept ≡ true
     → head t (e ∷ s) ≤ total (seg_len line) kept → journey line t s ≡ steps_to (seg_len line) kept (head t s) → journey line t (e ∷ s) ≡ steps_to (seg_len line) kept (head t (e ∷ s))
 unfolding journey
 journey_goes line t e s kept valid some chain own room is = by_test (goes_on t e.event)
@@ -150,7 +148,7 @@ module _ (line : Line) (t : ℕ) (st : DirSeg) (valid : is_line line ≡ true) (
           let none = journey_none line t s is in
           rw (y, none, asks) (led_first line st valid on (head t (e ∷ s)))
       by_first (Some a) is f =
-          let same : a ≡ st = some_one a st (rw is at h) in
+          let same : a ≡ st = same_Some a st (rw is at h) in
           let i = f (is ∙ ap (λ (x : DirSeg). Some x) same) in
           by_test (goes_on t e.event)
           (λ y.

@@ -1,13 +1,13 @@
 -- A journey that is led on is the track from its first step up to where its head comes.
 use Rattle.std.proofs.Common.{◌≡◌, ℕ, zero, suc, ◌+◌, ◌-◌, ◌<◌, ◌≤◌, List, [], ◌∷◌, ◌++◌, length, Option, Some, None, true, refl, sym, ap, ◌∙◌, arith}
 use Rattle.std.specs.List.{list_all}
+use Rattle.std.proofs.lemmas.Bool.{and_parts}
 use Rattle.track_points.specs.declared.ids.DirSeg.{DirSeg}
 use Rattle.track_points.specs.Points.{total, steps_to}
 use Rattle.definitions.specs.Track.{Line, seg_len, last_step, next_step, track_from, track_to, led}
 use Rattle.definitions.specs.Rules.{is_line}
 use Rattle.definitions.specs.Premises.{on_line}
 use Rattle.definitions.specs.Ways.{chained}
-use Rattle.way_laws.proofs.Lines.{both}
 use Rattle.way_laws.proofs.Cut.{cut_some}
 use Rattle.way_laws.proofs.Track.{TrackFront, track_none, track_some, track_joined}
 use Rattle.way_laws.proofs.Route.{cut_is_front, journey_any, journey_front, journey_cut}
@@ -74,7 +74,7 @@ pub led_on : (line : Line) (kept : List DirSeg) (h p : ℕ) → is_line line ≡
 led_on line [] h p valid some chain own room = absurd (omega arith)
 led_on line (st ∷ rest) h p valid some chain own room =
     let len = seg_len line in
-    let on = (both (on_line line st) (list_all (on_line line) rest) own).0 in
+    let on = (and_parts (on_line line st) (list_all (on_line line) rest) own).0 in
     let front : TrackFront line (Some st) (st ∷ rest) = track_joined line st rest valid chain in
     led_front line st valid on (steps_to len (st ∷ rest) h) p (cut_is_front line (Some st) len (st ∷ rest) h front) (cut_some len (st ∷ rest) h some)
     ∙ journey_cut line st valid on (st ∷ rest) p front some room

@@ -2,8 +2,9 @@
 use Rattle.std.proofs.Common.{◌≡◌, ℕ, ◌+◌, ◌<◌, ◌≤◌, length, get_or, Bool, true, false, ◌||◌, ◌&&◌, List, [], ◌∷◌, ◌++◌, if◌then◌else◌, Option, Some, None, refl, sym, ◌∙◌, ap, subst, arith, nat_eq}
 use Rattle.std.specs.Prelude.{is_some, unwrap_or, count_by, ⊤}
 use Rattle.std.specs.List.{list_any}
+use Rattle.std.proofs.lemmas.Bool.{or_parts}
 use Rattle.std.proofs.lemmas.Bool.Decides.{nat_tests}
-use Rattle.track_points.proofs.Some.{by_test}
+use Rattle.list_laws.proofs.Tests.{by_test}
 use Rattle.track_points.specs.declared.ids.Dir.{Dir}
 use Rattle.track_points.specs.declared.ids.Dir.TheVariants.{Up, Down}
 use Rattle.track_points.specs.Points.{dir_eq}
@@ -83,12 +84,9 @@ unused_in items (Buffer a) e r h =
     let p = unknown_end items a e (grind arith) h in rw p refl
 unused_in items (Silent ms) e r h = refl
 
-neither : (a b : Bool) → (a || b) ≡ false → a ≡ false
-neither a b h = grind arith
-
 loose_more : (items : Line) (i : Item) → IsLoose items → rule_of items i ≡ 0 → IsLoose (items ++ i ∷ [])
 loose_more items i loose r e h =
-    let out = neither (has_segment items e.segment) (is_segment e.segment i) (rw (any_more (is_segment e.segment) items i) at h) in
+    let out = (or_parts (has_segment items e.segment) (is_segment e.segment i) (rw (any_more (is_segment e.segment) items i) at h)).0 in
     rw (use_more items i e, loose e out) (unused_in items i e r out)
 
 some_silence : (o : Option ℕ) (i : Item) → is_some (first_silence o i) ≡ (is_some o || is_any_silent i)

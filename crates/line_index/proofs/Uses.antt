@@ -2,7 +2,7 @@
 use Rattle.std.proofs.Common.{◌≡◌, Bool, true, false, ◌||◌, List, [], ◌∷◌, ◌++◌, refl, sym, ◌∙◌, ap, arith}
 use Rattle.std.specs.Prelude.{not}
 use Rattle.std.specs.List.{list_any}
-use Rattle.track_points.proofs.Some.{by_test}
+use Rattle.list_laws.proofs.Tests.{by_test}
 use Rattle.definitions.specs.declared.item.End.{End}
 use Rattle.definitions.specs.declared.item.Item.{Item}
 use Rattle.definitions.specs.declared.item.Item.TheVariants.{Zone, Segment, Joint, Silent}

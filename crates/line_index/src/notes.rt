@@ -1,6 +1,5 @@
 //! What an index notes of the items, one item at a time.
-ghost use Rattle.std.specs.Prelude.{◌≡◌, ◌<◌, []};
-ghost use Rattle.std.specs.Prelude.{IfOk, length, is_some, unwrap_or};
+ghost use Rattle.std.specs.Prelude.{◌≡◌, ◌<◌, [], length, is_some, unwrap_or, IfOk};
 ghost use Rattle.line_index.specs.Table.{IsTable, look};
 ghost use Rattle.line_index.specs.Notes.{CanNote, Noted, Same, Tells, is_noted, length_from, zone_from, use_from};
 
@@ -8,7 +7,6 @@ use crate::ends::EndUse;
 use crate::table::{Entry, Table, end_of};
 use definitions::item::{End, Item};
 use std::alloc::{AllocError, Global};
-use track_points::Dir;
 
 /// Which zones are declared, whether any is, after how many ms a train is silent where an item says so, and the
 /// declared segments.
@@ -48,42 +46,49 @@ impl Notes {
         })
     }
 
+    /// Whether the zone is declared.
     pub fn has_zone(&self, z: u64) -> bool
         ensures { result ≡ is_noted self.now z }
     {
         z < 17 && self.zones[z as usize]
     }
 
+    /// Whether any zone is declared.
     pub fn has_a_zone(&self) -> bool
         ensures { result ≡ self.now.zoned }
     {
         self.zoned
     }
 
+    /// Whether an item says after how many ms a train is silent.
     pub fn has_silence(&self) -> bool
         ensures { result ≡ is_some self.now.silence }
     {
         self.silence.is_some()
     }
 
+    /// After how many ms without a used report a train is silent.
     pub fn silent_after(&self) -> u64
         ensures { result ≡ unwrap_or self.now.silence 5000 }
     {
         self.silence.unwrap_or(5000)
     }
 
+    /// How many segments are declared.
     pub fn segment_count(&self) -> usize
         ensures { result ≡ length self.now.table.entries.items }
     {
         self.table.len()
     }
 
+    /// Whether the segment is declared.
     pub fn has_segment(&self, s: u64) -> bool
         ensures { result ≡ is_some (look self.now.table s) }
     {
         self.table.get(s).is_some()
     }
 
+    /// The length of a segment in mm, 0 where it is not declared.
     pub fn length_of(&self, s: u64) -> u64
         ensures { result ≡ length_from (look self.now.table s) }
     {
@@ -93,6 +98,7 @@ impl Notes {
         }
     }
 
+    /// The zone of a segment, 0 where it is not declared.
     pub fn zone_of(&self, s: u64) -> u64
         ensures { result ≡ zone_from (look self.now.table s) }
     {
@@ -102,6 +108,7 @@ impl Notes {
         }
     }
 
+    /// What uses an end.
     pub fn use_of(&self, e: End) -> EndUse
         ensures { result ≡ use_from e.dir (look self.now.table e.segment) }
     {

@@ -2,8 +2,9 @@
 use Rattle.std.proofs.Common.{◌≡◌, ℕ, Bool, true, false, ◌||◌, List, [], ◌∷◌, ◌++◌, refl, sym, ◌∙◌, ap, arith, nat_eq}
 use Rattle.std.specs.Prelude.{Option, Some, None}
 use Rattle.std.specs.List.{list_any}
-use Rattle.std.proofs.lemmas.Bool.Decides.{nat_tests}
 use Rattle.std.proofs.lemmas.List.Folds.{list_any-append}
+use Rattle.std.proofs.lemmas.Bool.{or_left, or_right, or_from, eqb-true}
+use Rattle.list_laws.proofs.Tests.{by_test}
 use Rattle.track_points.specs.declared.ids.Dir.{Dir}
 use Rattle.track_points.specs.declared.ids.Dir.TheVariants.{Up, Down}
 use Rattle.track_points.specs.declared.ids.DirSeg.{DirSeg}
@@ -15,7 +16,7 @@ use Rattle.definitions.specs.Track.{Line, end_eq, uses, exit_of, behind_joint, f
 use Rattle.definitions.specs.Rules.{rule_of, builds, is_line}
 use Rattle.definitions.proofs.Unbroken.{unbroken}
 use Rattle.line_map.specs.Next.{after_item, after_end, after_of, AfterIs}
-use Rattle.line_map.proofs.Valid.{by_test, absurd, and_left, and_right, or_left, zero_test}
+use Rattle.line_map.proofs.Valid.{absurd, and_left, and_right, zero_test}
 
 same_dir : (a b : Dir) → dir_eq a b ≡ true → a ≡ b
 same_dir Up Up h = refl
@@ -23,12 +24,9 @@ same_dir Down Down h = refl
 same_dir Up Down h = absurd h
 same_dir Down Up h = absurd h
 
-same_number : (m n : ℕ) → nat_eq m n ≡ true → m ≡ n
-same_number m n h = grind (arith, nat_tests)
-
 pub same_end : (a e : End) → end_eq a e ≡ true → a ≡ e
 same_end a e h =
-    let s = same_number a.segment e.segment (and_left (nat_eq a.segment e.segment) (dir_eq a.dir e.dir) h) in
+    let s = eqb-true a.segment e.segment (and_left (nat_eq a.segment e.segment) (dir_eq a.dir e.dir) h) in
     let d = same_dir a.dir e.dir (and_right (nat_eq a.segment e.segment) (dir_eq a.dir e.dir) h) in
     ap (λ (n : ℕ). record { segment = n; dir = a.dir }) s ∙ ap (λ (x : Dir). record { segment = e.segment; dir = x }) d
 
@@ -38,9 +36,6 @@ free_end before a e used free = by_test (end_eq a e)
     (λ y. absurd (sym free ∙ (ap (λ x. list_any (uses x) before) (same_end a e y) ∙ used)))
     (λ n. n)
 
-neither_end : (x y : Bool) → x ≡ false → y ≡ false → (x || y) ≡ false
-neither_end x y h k = grind arith
-
 -- an item that breaks no rule uses no end that is used
 joint_free : (before : List Item) (a b : End) → rule_of before (Joint a b) ≡ 0 → (list_any (uses a) before ≡ false) × (list_any (uses b) before ≡ false)
 joint_free before a b r = let f = (unbroken before (Joint a b) r).free in (grind arith, grind arith)
@@ -49,7 +44,7 @@ pub used_once : (before : List Item) (i : Item) (e : End) → rule_of before i �
 used_once before (Zone z) e r used = refl
 used_once before (Segment s z len) e r used = refl
 used_once before (Joint a b) e r used =
-    neither_end (end_eq a e) (end_eq b e) (free_end before a e used (joint_free before a b r).0) (free_end before b e used (joint_free before a b r).1)
+    or_from (end_eq a e) (end_eq b e) (free_end before a e used (joint_free before a b r).0) (free_end before b e used (joint_free before a b r).1)
 used_once before (Portal a) e r used = free_end before a e used (unbroken before (Portal a) r).free
 used_once before (Buffer a) e r used = free_end before a e used (unbroken before (Buffer a) r).free
 used_once before (Silent ms) e r used = refl
@@ -66,9 +61,6 @@ no_joint (Joint a b) e h = by_test (end_eq a e)
 no_joint (Portal a) e h = refl
 no_joint (Buffer a) e h = refl
 no_joint (Silent ms) e h = refl
-
-pub or_right : (a b : Bool) → b ≡ true → (a || b) ≡ true
-or_right a b h = grind arith
 
 pub still_used : (before : List Item) (i : Item) (e : End) → (list_any (uses e) before || uses e i) ≡ true → list_any (uses e) (before ++ i ∷ []) ≡ true
 still_used before i e h = rw (list_any-append (uses e) before (i ∷ [])) (one_of (list_any (uses e) before) (uses e i) h)

@@ -1,7 +1,10 @@
 -- An end is used at most once: what uses it first tells whatever an item says of it.
-use Rattle.std.proofs.Common.{◌≡◌, ℕ, Bool, true, false, ◌&&◌, ◌||◌, [], ◌∷◌, ◌++◌, refl, sym, ◌∙◌, ap, arith, nat_eq}
+use Rattle.std.proofs.Common.{◌≡◌, ℕ, Bool, true, false, ◌&&◌, ◌||◌, [], ◌∷◌, ◌++◌, refl, sym, ◌∙◌, ap, nat_eq}
 use Rattle.std.specs.Prelude.{not}
 use Rattle.std.specs.List.{list_any, list_all}
+use Rattle.std.proofs.Math.Bool.{or-false, and-true, and-false, or_self}
+use Rattle.std.proofs.lemmas.Bool.{or_left, or_right}
+use Rattle.list_laws.proofs.Tests.{by_test}
 use Rattle.track_points.specs.declared.ids.DirSeg.{DirSeg}
 use Rattle.definitions.specs.declared.item.End.{End}
 use Rattle.definitions.specs.declared.item.Item.{Item}
@@ -14,8 +17,8 @@ use Rattle.line_index.specs.declared.ends.EndUse.TheVariants as used
 use Rattle.line_index.specs.Uses.{first_use, is_free, use_in, use_of}
 use Rattle.line_index.proofs.Uses.{free_in, used_in}
 use Rattle.line_map.specs.Next.{after_item, after_end, after_use, joins_where, is_portal_use, FitsIds, FitsUse}
-use Rattle.line_map.proofs.Valid.{by_test, absurd, and_left, and_right, or_left, zero_test, fine, all_fine, ids_fit}
-use Rattle.line_map.proofs.Following.{same_end, used_once, still_used, or_right}
+use Rattle.line_map.proofs.Valid.{absurd, and_left, and_right, zero_test, fine, all_fine, ids_fit}
+use Rattle.line_map.proofs.Following.{same_end, used_once, still_used}
 
 first_stays : (u v : EndUse) → not (is_free u) ≡ true → first_use u v ≡ u
 first_stays Free v h = absurd h
@@ -37,9 +40,6 @@ none_more t e k (i ∷ items) before b h =
     rw (k i (used_once before i e r h))
     (none_more t e k items (before ++ i ∷ []) rest (still_used before i e (or_left (list_any (uses e) before) (uses e i) h)))
 
-or_none : (b : Bool) → (b || false) ≡ b
-or_none b = grind arith
-
 -- so any item says it exactly where the first that uses the end does
 once : (t : Item → Bool) (w : EndUse → Bool) (e : End) → w Free ≡ false → ((i : Item) → t i ≡ w (use_in e i))
     → (items before : Line) → builds before items ≡ true → list_any t items ≡ w (use_of items e)
@@ -50,24 +50,15 @@ once t w e free k (i ∷ items) before b =
     let silent : (x : Item) → uses e x ≡ false → t x ≡ false = λ x h. k x ∙ (ap w (free_in e x h) ∙ free) in
     by_test (uses e i)
     (λ y. rw (k i, none_more t e silent items (before ++ i ∷ []) rest (still_used before i e (or_right (list_any (uses e) before) (uses e i) y)), first_used e i (use_of items e) y)
-    (or_none (w (use_in e i))))
+    (or-false (w (use_in e i))))
     (λ n. rw (silent i n, free_in e i n) (once t w e free k items (before ++ i ∷ []) rest))
-
-and_true : (b : Bool) → (b && true) ≡ b
-and_true b = grind arith
-
-and_false : (b : Bool) → (b && false) ≡ false
-and_false b = grind arith
-
-or_same : (b : Bool) → (b || b) ≡ b
-or_same b = grind arith
 
 -- a joint of an end with itself joins it with nothing else
 joins_same : (x y a b : End) → end_eq x a ≡ true → (end_eq y b || (end_eq x b && end_eq y a)) ≡ end_eq y b
 joins_same x y a b p = by_test (end_eq y a)
     (λ q. let e : x ≡ y = same_end x a p ∙ sym (same_end y a q) in
-    rw (q, ap (λ (z : End). end_eq z b) e, and_true (end_eq y b)) (or_same (end_eq y b)))
-    (λ m. rw (m, and_false (end_eq x b)) (or_none (end_eq y b)))
+    rw (q, ap (λ (z : End). end_eq z b) e, and-true (end_eq y b)) (or_self (end_eq y b)))
+    (λ m. rw (m, and-false (end_eq x b)) (or-false (end_eq y b)))
 
 joins_is : (a b : End) (i : Item) → joins a b i ≡ joins_where (λ x. end_eq x b) (use_in a i)
 joins_is a b (Zone z) = refl
@@ -75,8 +66,8 @@ joins_is a b (Segment s z len) = refl
 joins_is a b (Joint x y) = by_test (end_eq x a)
     (λ p. rw p (joins_same x y a b p))
     (λ n. by_test (end_eq y a)
-    (λ q. rw (n, q) (and_true (end_eq x b)))
-    (λ m. rw (n, m) (and_false (end_eq x b))))
+    (λ q. rw (n, q) (and-true (end_eq x b)))
+    (λ m. rw (n, m) (and-false (end_eq x b))))
 joins_is a b (Portal x) = by_test (end_eq x a) (λ p. rw p refl) (λ n. rw n refl)
 joins_is a b (Buffer x) = by_test (end_eq x a) (λ p. rw p refl) (λ n. rw n refl)
 joins_is a b (Silent ms) = refl
@@ -93,8 +84,8 @@ within_same : (items : Line) (z : ℕ) (a b e : End) → end_eq a e ≡ true
     → (nat_eq (zone_of items b.segment) z || (end_eq b e && nat_eq (zone_of items a.segment) z)) ≡ nat_eq (zone_of items b.segment) z
 within_same items z a b e p = by_test (end_eq b e)
     (λ q. let s : a ≡ b = same_end a e p ∙ sym (same_end b e q) in
-    rw (q, ap (λ (x : End). nat_eq (zone_of items x.segment) z) s) (or_same (nat_eq (zone_of items b.segment) z)))
-    (λ m. rw m (or_none (nat_eq (zone_of items b.segment) z)))
+    rw (q, ap (λ (x : End). nat_eq (zone_of items x.segment) z) s) (or_self (nat_eq (zone_of items b.segment) z)))
+    (λ m. rw m (or-false (nat_eq (zone_of items b.segment) z)))
 
 within_is : (items : Line) (z : ℕ) (e : End) (i : Item)
     → joins_within items z e i ≡ joins_where (λ x. nat_eq (zone_of items x.segment) z) (use_in e i)

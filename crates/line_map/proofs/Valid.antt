@@ -1,11 +1,12 @@
 -- What the rules give of every item of a line, and so of every segment and zone.
-use Rattle.std.proofs.Common.{◌≡◌, ℕ, ◌≤◌, Bool, true, false, ◌&&◌, ◌||◌, List, [], ◌∷◌, ◌++◌, append_assoc, refl, ◌∙◌, arith, nat_eq}
+use Rattle.std.proofs.Common.{◌≡◌, ℕ, ◌≤◌, Bool, true, false, ◌&&◌, List, [], ◌∷◌, ◌++◌, append_assoc, refl, ◌∙◌, arith, nat_eq}
 use Rattle.std.specs.Prelude.{Result, Ok, Err, OnOk, OnErr}
 use Rattle.std.specs.List.{list_all, list_any}
-use Rattle.std.proofs.lemmas.Bool.{both_ways}
+use Rattle.std.proofs.lemmas.Bool.{both_ways, or_left, and_from}
 use Rattle.std.proofs.lemmas.Bool.Decides.{nat_tests}
 use Rattle.std.proofs.lemmas.List.{append-nil}
 use Rattle.std.proofs.lemmas.List.Folds.{list_any-append, list_all-append}
+use Rattle.list_laws.proofs.Tests.{by_test}
 use Rattle.definitions.specs.declared.item.Item.{Item}
 use Rattle.definitions.specs.declared.item.Item.TheVariants.{Zone, Segment, Joint, Portal, Buffer, Silent}
 use Rattle.track_points.specs.declared.ids.DirSeg.{DirSeg}
@@ -14,10 +15,6 @@ use Rattle.definitions.specs.Track.{Line, ranged, end_eq, is_portal, entrance_of
 use Rattle.definitions.specs.Rules.{rule_of, builds, is_line}
 use Rattle.definitions.proofs.Unbroken.{unbroken}
 use Rattle.line_map.specs.Next.{FitsIds}
-
-pub by_test : {P : Type 0} (b : Bool) → (b ≡ true → P) → (b ≡ false → P) → P
-by_test true p q = p refl
-by_test false p q = q refl
 
 pub absurd : {P : Type 0} → false ≡ true → P
 absurd h = elim (both_ways false refl h) [ ]
@@ -28,19 +25,13 @@ and_left a b h = grind arith
 pub and_right : (a b : Bool) → (a && b) ≡ true → b ≡ true
 and_right a b h = grind arith
 
-and_both : (a b : Bool) → a ≡ true → b ≡ true → (a && b) ≡ true
-and_both a b h k = grind arith
-
-pub or_left : (a b : Bool) → a ≡ true → (a || b) ≡ true
-or_left a b h = grind arith
-
 -- the items so far break no rule, and neither does the next
 pub builds_more : (before items : List Item) (x : Item) → builds before items ≡ true → rule_of (before ++ items) x ≡ 0
     → builds before (items ++ x ∷ []) ≡ true
 unfolding builds
 builds_more before [] x b r = let e : rule_of before x ≡ 0 = rw (append-nil before) at r in rw e refl
 builds_more before (i ∷ items) x b r =
-    and_both _ _ (and_left _ _ b)
+    and_from _ _ (and_left _ _ b)
     (builds_more (before ++ i ∷ []) items x (and_right _ _ b) (rw (append_assoc before (i ∷ []) items) r))
 
 -- the items after one more was wanted, whether or not there was memory for it
@@ -74,16 +65,16 @@ segment_grown line x s h = rw (list_any-append (is_segment s) line (x ∷ [])) (
 
 grown : (line : Line) (x i : Item) → fine line i ≡ true → fine (line ++ x ∷ []) i ≡ true
 grown line x (Zone z) h = h
-grown line x (Segment s z len) h = and_both _ _ (and_left _ _ h) (zone_grown line x z (and_right _ _ h))
+grown line x (Segment s z len) h = and_from _ _ (and_left _ _ h) (zone_grown line x z (and_right _ _ h))
 grown line x (Joint a b) h =
-    and_both _ _ (segment_grown line x a.segment (and_left _ _ h)) (segment_grown line x b.segment (and_right _ _ h))
+    and_from _ _ (segment_grown line x a.segment (and_left _ _ h)) (segment_grown line x b.segment (and_right _ _ h))
 grown line x (Portal a) h = segment_grown line x a.segment h
 grown line x (Buffer a) h = segment_grown line x a.segment h
 grown line x (Silent ms) h = h
 
 all_grown : (line : Line) (x : Item) (items : List Item) → list_all (fine line) items ≡ true → list_all (fine (line ++ x ∷ [])) items ≡ true
 all_grown line x [] h = refl
-all_grown line x (i ∷ items) h = and_both _ _ (grown line x i (and_left _ _ h)) (all_grown line x items (and_right _ _ h))
+all_grown line x (i ∷ items) h = and_from _ _ (grown line x i (and_left _ _ h)) (all_grown line x items (and_right _ _ h))
 
 one_more : (line : Line) (i : Item) → list_all (fine line) line ≡ true → rule_of line i ≡ 0
     → list_all (fine (line ++ i ∷ [])) (line ++ i ∷ []) ≡ true
@@ -91,7 +82,7 @@ one_more line i h r =
     let p : Item → Bool = fine (line ++ i ∷ []) in
     let last : p i ≡ true = grown line i i (rule_fine line i r) in
     let old : list_all p line ≡ true = all_grown line i line h in
-    list_all-append p line (i ∷ []) ∙ and_both (list_all p line) (list_all p (i ∷ [])) old (and_both (p i) true last refl)
+    list_all-append p line (i ∷ []) ∙ and_from (list_all p line) (list_all p (i ∷ [])) old (and_from (p i) true last refl)
 
 pub zero_test : (n : ℕ) → nat_eq n 0 ≡ true → n ≡ 0
 zero_test n h = grind (arith, nat_tests)

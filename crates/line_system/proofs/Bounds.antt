@@ -1,7 +1,8 @@
 -- Times and fields of messages stay in their ranges.
 use Rattle.std.proofs.Common.{◌≡◌, ℕ, ◌*◌, ◌≤◌, List, [], ◌∷◌, length, Option, Some, true, ap, arith}
-use Rattle.std.specs.Prelude.{slice_get, is_some, nat_eq}
+use Rattle.std.specs.Prelude.{slice_get, is_some}
 use Rattle.std.proofs.lemmas.Bool.Decides.{nat_tests}
+use Rattle.list_laws.proofs.Tests.{eq_self}
 use Rattle.definitions.specs.declared.event.Event.{Event}
 use Rattle.definitions.specs.declared.event.Event.TheVariants.{Step}
 use Rattle.definitions.specs.declared.message.Msg.{Msg}
@@ -16,7 +17,7 @@ use Rattle.event_laws.proofs.Admitted.{admitted}
 use Rattle.event_laws.proofs.Issued.{issued_all}
 use Rattle.event_laws.proofs.Moments.{clock_next}
 use Rattle.event_laws.proofs.Does.{effect_event}
-use Rattle.sound_laws.proofs.Sound.{Sound, EntryIs, RequestTrue}
+use Rattle.invariant_laws.proofs.Invariant.{Invariant, EntryIs, RequestTrue}
 use Rattle.zone_state.specs.Zone.{InRange}
 
 elapsed_most : (line : Line) (s : Story) (e : Event) → built line s e ≡ true → elapsed e ≤ 60000
@@ -37,15 +38,12 @@ clock_most line (e ∷ es) k =
 long_is : (t : ℕ) (s : Story) (f : Facts) → facts_of t s ≡ Some f → (is_declared t s ≡ true) × (long_of t s ≡ f.long)
 long_is t s f h = (ap (λ (x : Option Facts). is_some x) h, ap (λ (x : Option Facts). (facts_or x).long) h)
 
-self : (t : ℕ) → nat_eq t t ≡ true
-self t = grind (arith, nat_tests)
-
 -- a message that was sent has its fields in their ranges
-pub in_range : (line : Line) (s : Story) (from to k : ℕ) (m : Msg) → ((t : ℕ) → Sound line t s) → slice_get (sent from to s) k ≡ Some m → InRange m
-in_range line s from to k (msg.EntryAsk u time long error speed equipped step) sound h =
-    let true_ : RequestTrue line u.0 s (msg.EntryAsk u time long error speed equipped step) = issued_all (RequestTrue line u.0 s) from to s k (msg.EntryAsk u time long error speed equipped step) (sound u.0).authorized.requests h in
-    let is : EntryIs line u.0 s long error speed step = true_ (self u.0) in
+pub in_range : (line : Line) (s : Story) (from to k : ℕ) (m : Msg) → ((t : ℕ) → Invariant line t s) → slice_get (sent from to s) k ≡ Some m → InRange m
+in_range line s from to k (msg.EntryAsk u time long error speed equipped step) invariant h =
+    let true_ : RequestTrue line u.0 s (msg.EntryAsk u time long error speed equipped step) = issued_all (RequestTrue line u.0 s) from to s k (msg.EntryAsk u time long error speed equipped step) (invariant u.0).authorized.requests h in
+    let is : EntryIs line u.0 s long error speed step = true_ (eq_self u.0) in
     let f = long_is u.0 s (record { long = long; error = error; speed = speed }) is.facts in
-    let some = (sound u.0).authorized.long_some f.0 in
+    let some = (invariant u.0).authorized.long_some f.0 in
     omega arith
-in_range line s from to k _ sound h = tt
+in_range line s from to k _ invariant h = tt

@@ -1,6 +1,6 @@
 -- A delivery, take by take.
-use Rattle.std.proofs.Common.{◌≡◌, ℕ, zero, suc, ◌+◌, ◌-◌, ◌<◌, ◌≤◌, List, [], ◌∷◌, ◌++◌, append_assoc, append-nil, Bool, true, false, not, refl, sym, ap, subst, ◌∙◌, arith, nat_eq}
-use Rattle.std.proofs.lemmas.Bool.{eqb-true}
+use Rattle.std.proofs.Common.{◌≡◌, ℕ, zero, suc, ◌+◌, ◌-◌, ◌<◌, ◌≤◌, List, [], ◌∷◌, ◌++◌, append_assoc, append-nil, true, false, not, refl, sym, ap, subst, ◌∙◌, arith, nat_eq}
+use Rattle.std.proofs.lemmas.Bool.{eqb-true, and_parts, not-true}
 use Rattle.definitions.specs.declared.event.Event.{Event}
 use Rattle.definitions.specs.declared.event.Event.TheVariants.{Take}
 use Rattle.definitions.specs.declared.outcome.Outcome.{Outcome}
@@ -8,7 +8,6 @@ use Rattle.definitions.specs.Track.{Line, is_actor}
 use Rattle.definitions.specs.Premises.{built, too_many, premise_of, admits}
 use Rattle.definitions.specs.Steps.{effects, story_of, takes_from, deliveries}
 use Rattle.definitions.specs.Trace.{Went, went}
-use Rattle.event_laws.proofs.Notions.{both}
 use Rattle.document_laws.proofs.Delivered.{AllAdmitted, delivery_admitted}
 use Rattle.line_system.specs.History.{History}
 
@@ -51,10 +50,6 @@ unfolding AllAdmitted went
 admitted_next line before [] ys e a = a.0
 admitted_next line before (x ∷ xs) ys e a = admitted_next line (x ∷ before) xs ys e a.1
 
-not_true : (b : Bool) → not b ≡ true → b ≡ false
-not_true true h = absurd cc
-not_true false h = refl
-
 -- what an admitted event keeps to
 pub record Keeps (line : Line) (es : List Event) (e : Event) : Type 0 where
   pub built : built line (story_of line es) e ≡ true
@@ -63,11 +58,11 @@ pub record Keeps (line : Line) (es : List Event) (e : Event) : Type 0 where
 
 pub keeps : (line : Line) (es : List Event) (e : Event) → admits line (story_of line es) e ≡ true → Keeps line es e
 keeps line es e h =
-    let a = both (built line (story_of line es) e) _ h in
-    let b = both (not (too_many (story_of line es) e)) (nat_eq (premise_of line (story_of line es) e) 0) a.1 in
+    let a = and_parts (built line (story_of line es) e) _ h in
+    let b = and_parts (not (too_many (story_of line es) e)) (nat_eq (premise_of line (story_of line es) e) 0) a.1 in
     record {
       built = a.0;
-      within = not_true (too_many (story_of line es) e) b.0;
+      within = not-true (too_many (story_of line es) e) b.0;
       kept = eqb-true (premise_of line (story_of line es) e) 0 b.1;
     }
 

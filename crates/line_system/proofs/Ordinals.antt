@@ -1,7 +1,8 @@
 -- The greatest ordinals that were taken, one event further.
-use Rattle.std.proofs.Common.{◌≡◌, ℕ, ◌≤◌, ◌∷◌, Bool, true, false, ◌&&◌, not, max, refl, sym, ap, ◌∙◌, arith, nat_eq}
+use Rattle.std.proofs.Common.{◌≡◌, ℕ, ◌≤◌, ◌∷◌, true, false, ◌&&◌, not, max, refl, sym, ap, ◌∙◌, arith, nat_eq}
 use Rattle.std.proofs.lemmas.Bool.Decides.{nat_tests}
-use Rattle.track_points.proofs.Some.{by_test}
+use Rattle.std.proofs.lemmas.Bool.{and_parts, not-true}
+use Rattle.list_laws.proofs.Tests.{by_test}
 use Rattle.definitions.specs.declared.event.Event.{Event}
 use Rattle.definitions.specs.declared.event.Event.TheVariants.{Take}
 use Rattle.definitions.specs.Track.{Line, is_actor}
@@ -11,25 +12,20 @@ use Rattle.definitions.specs.Steps.{effects, taken_by, taken_most}
 use Rattle.definitions.specs.Safe.{IsLineOfOneZone}
 use Rattle.definitions.specs.Zones.{zone_id}
 use Rattle.event_laws.proofs.Does.{effect_event}
-use Rattle.sound_laws.proofs.One_zone.{zone_only}
-use Rattle.event_laws.proofs.Notions.{both}
+use Rattle.invariant_laws.proofs.One_zone.{zone_only}
 use Rattle.line_system.specs.State.{Taken, taken_with, taken_behind}
 
 actor_is : (line : Line) (a : ℕ) → IsLineOfOneZone line → is_actor line a ≡ true → nat_eq a 0 ≡ false → a ≡ zone_id line
 actor_is line a l act off = zone_only line a l.one (rw off at act)
-
-not_true : (b : Bool) → not b ≡ true → b ≡ false
-not_true true h = absurd cc
-not_true false h = refl
 
 -- a take goes between the world and the zone
 takes_between : (line : Line) (to from number : ℕ) (u : Taken) → IsLineOfOneZone line → 1 ≤ zone_id line → (not (nat_eq to from) && (is_actor line to && is_actor line from)) ≡ true
     → ((taken_with to number u).by_zone ≡ max (taken_by (zone_id line) 0 (Take to from number)) u.by_zone)
     × ((taken_with to number u).by_world ≡ max (taken_by 0 (zone_id line) (Take to from number)) u.by_world)
 takes_between line to from number u l positive h =
-    let a = both (not (nat_eq to from)) (is_actor line to && is_actor line from) h in
-    let b = both (is_actor line to) (is_actor line from) a.1 in
-    let apart = not_true (nat_eq to from) a.0 in
+    let a = and_parts (not (nat_eq to from)) (is_actor line to && is_actor line from) h in
+    let b = and_parts (is_actor line to) (is_actor line from) a.1 in
+    let apart = not-true (nat_eq to from) a.0 in
     by_test (nat_eq to 0)
     (λ world.
     let off : nat_eq from 0 ≡ false = grind (arith, nat_tests) in

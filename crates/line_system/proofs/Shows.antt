@@ -10,15 +10,15 @@ use Rattle.definitions.specs.Story.{Story}
 use Rattle.definitions.specs.Authority.{way}
 use Rattle.definitions.specs.Steps.{story_of}
 use Rattle.plain_state.specs.declared.Controlled.{Controlled}
-use Rattle.plain_state.specs.Zone.{PlainZone, find_way}
+use Rattle.plain_state.specs.Zone.{PlainZone, find_controlled}
 use Rattle.definitions.specs.Zones.{zone_id}
-use Rattle.plain_state.specs.Relation.{zone_train_of, ZoneLinked}
-use Rattle.step_laws.proofs.Every.{sound_story}
+use Rattle.plain_state.specs.Refinement.{zone_train_of, ZoneRefines}
+use Rattle.step_laws.proofs.Every.{invariant_story}
 use Rattle.zone_state.specs.Zone.{ZoneKept, IsEnvelope}
-use Rattle.link_laws.proofs.Values.{way_is_known}
-use Rattle.link_laws.proofs.Shown.{found_controls}
-use Rattle.link_laws.proofs.Envelopes.{envelope_now}
-use Rattle.link_laws.proofs.One_zone.{the_zone}
+use Rattle.refinement_laws.proofs.Values.{way_is_known}
+use Rattle.refinement_laws.proofs.Shown.{found_controls}
+use Rattle.refinement_laws.proofs.Envelopes.{envelope_now}
+use Rattle.refinement_laws.proofs.One_zone.{the_zone}
 use Rattle.line_system.specs.State.{Taken, Parts, plain_of}
 use Rattle.line_system.specs.Kept.{IsKept}
 use Rattle.line_system.specs.Shows.{ShowsEnvelope, ShowsNotions, ShowsWorld}
@@ -31,27 +31,27 @@ module _ (line : Line) (es : List Event) (p : Parts) (u : Taken) (zone : ZoneKep
   abbrev s : Story
   s = story_of line es
 
-  module _ (linked : ZoneLinked line (zone_id line) (story_of line es) zone.plain) where
-    shows_envelope : (t : ℕ) (found : Option Controlled) (set : Option Points) → find_way t zone.plain.trains ≡ found → IsEnvelope (layout line) found set → ShowsEnvelope line (zone_id line) t (story_of line es) set
-    shows_envelope t None None is h = sym (way_is_known line (zone_id line) t s) ∙ none_of line t s (way line (zone_id line) t s) (sym (linked.ways t) ∙ is)
+  module _ (refines : ZoneRefines line (zone_id line) (story_of line es) zone.plain) where
+    shows_envelope : (t : ℕ) (found : Option Controlled) (set : Option Points) → find_controlled t zone.plain.trains ≡ found → IsEnvelope (layout line) found set → ShowsEnvelope line (zone_id line) t (story_of line es) set
+    shows_envelope t None None is h = sym (way_is_known line (zone_id line) t s) ∙ none_of line t s (way line (zone_id line) t s) (sym (refines.found t) ∙ is)
     shows_envelope t None (Some set) is h = absurd h
     shows_envelope t (Some x) None is h = absurd h
     shows_envelope t (Some x) (Some set) is h = (
-      found_controls line s k.one_zone.valid zone.plain.trains linked.ways (λ v. sound_story line v es k.one_zone k.kept) t x is,
-      λ point. h point ∙ envelope_now line s zone.plain k.one_zone.valid linked (λ v. sound_story line v es k.one_zone k.kept) t x point is,
+      found_controls line s k.one_zone.valid zone.plain.trains refines.found (λ v. invariant_story line v es k.one_zone k.kept) t x is,
+      λ point. h point ∙ envelope_now line s zone.plain k.one_zone.valid refines (λ v. invariant_story line v es k.one_zone k.kept) t x point is,
     )
 
-    shows_linked : ShowsNotions line (story_of line es) (zone_id line) zone
-    shows_linked = record {
+    shows_refined : ShowsNotions line (story_of line es) (zone_id line) zone
+    shows_refined = record {
       fits = k.on_line;
-      id = linked.id;
-      time = linked.clock;
-      holds = linked.holds;
-      envelopes = λ t set h. shows_envelope t (find_way t zone.plain.trains) set refl h;
+      id = refines.id;
+      time = refines.clock;
+      holds = refines.holds;
+      envelopes = λ t set h. shows_envelope t (find_controlled t zone.plain.trains) set refl h;
     }
 
   pub shows_zone : p.zone ≡ zone.plain → ShowsNotions line (story_of line es) (zone_id line) zone
-  shows_zone same = shows_linked (subst (λ (y : PlainZone). ZoneLinked line (zone_id line) s y) same (the_zone line s (plain_of p) k.one_zone k.linked))
+  shows_zone same = shows_refined (subst (λ (y : PlainZone). ZoneRefines line (zone_id line) s y) same (the_zone line s (plain_of p) k.one_zone k.refines))
 
   pub shows_world : ShowsWorld line (story_of line es) p.world
-  shows_world = record { on = k.world_on; time = k.linked.time; trains = k.linked.trains; count = k.linked.count }
+  shows_world = record { on = k.world_on; time = k.refines.time; trains = k.refines.trains; count = k.refines.count }

@@ -2,8 +2,8 @@
 use Rattle.std.proofs.Common.{◌≡◌, ℕ, zero, suc, ◌<◌, ◌≤◌, Bool, true, ◌&&◌, [], ◌∷◌, refl, ap, arith, nat_eq, count_by, Some, None}
 use Rattle.std.specs.List.{list_any}
 use Rattle.std.proofs.lemmas.Bool.Decides.{nat_tests}
+use Rattle.list_laws.proofs.Tests.{by_test}
 use Rattle.track_points.specs.declared.ids.ZoneId.{ZoneId}
-use Rattle.track_points.proofs.Some.{by_test}
 use Rattle.definitions.specs.declared.item.Item.TheVariants.{Zone, Segment, Joint, Portal, Buffer, Silent}
 use Rattle.definitions.specs.Track.{Line, has_zone}
 use Rattle.definitions.specs.Numbers.{least}
@@ -17,10 +17,10 @@ use Rattle.world_sim.specs.World.{AllOn}
 use Rattle.line_system.specs.State.{Taken, Parts, taken_start}
 use Rattle.line_map.specs.Order.{count_below, IsZoneAt}
 use Rattle.line_map.proofs.Valid.{zone_ok}
-use Rattle.sound_laws.proofs.One_zone.{zone_only}
-use Rattle.link_laws.proofs.Linking.{linked_start}
+use Rattle.invariant_laws.proofs.One_zone.{zone_only}
+use Rattle.refinement_laws.proofs.Refining.{refines_start}
 use Rattle.line_system.specs.Kept.{IsKept}
-use Rattle.line_system.proofs.Parts.{same_linked}
+use Rattle.line_system.proofs.Parts.{same_refined}
 
 pub zone_at : (line : Line) (k : ℕ) (z : ZoneId) → IsZoneAt line k (Some z) → count_by is_any_zone line ≤ 1 → z.0 ≡ zone_id line
 zone_at line k z at one = zone_only line z.0 one at.0
@@ -71,7 +71,7 @@ unfolding Kept story_of taken_most AllOn
 starts line k t zone v one h none on = record {
   one_zone = record { valid = v; one = one };
   kept = tt;
-  linked = rw h (same_linked line [] (parts_start line) plain_start (record { valid = v; one = one }) refl refl refl refl (linked_start line));
+  refines = rw h (same_refined line [] (parts_start line) plain_start (record { valid = v; one = one }) refl refl refl refl (refines_start line));
   taken_zone = ap (λ (x : Taken). x.by_zone) none;
   taken_world = ap (λ (x : Taken). x.by_world) none;
   on_line = on;

@@ -19,31 +19,31 @@ use Rattle.plain_state.specs.Plain.{Plain, plain_effect}
 use Rattle.plain_state.specs.Admits.{plain_built, plain_too_many, plain_premise}
 use Rattle.world_sim.specs.World.{StepFits, IsWorldOn}
 use Rattle.zone_state.specs.Zone.{ZoneKept, IsZoneOn}
-use Rattle.sound_laws.proofs.Sound.{Sound}
-use Rattle.step_laws.proofs.Every.{sound_story}
-use Rattle.link_laws.proofs.Linked.{built_is, too_many_is, premise_is, effect_is, linked_next}
+use Rattle.invariant_laws.proofs.Invariant.{Invariant}
+use Rattle.step_laws.proofs.Every.{invariant_story}
+use Rattle.refinement_laws.proofs.Refines.{built_is, too_many_is, premise_is, effect_is, refines_next}
 use Rattle.line_system.specs.History.{History}
 use Rattle.line_system.specs.State.{Taken, Parts, plain_of, parts_next, taken_behind, TakenInRange, EventInRange, due_of}
 use Rattle.line_system.specs.Kept.{IsKept}
 use Rattle.line_system.proofs.Bounds.{clock_most, in_range}
-use Rattle.line_system.proofs.Parts.{own_id, from_world, from_zone, parts_linked}
+use Rattle.line_system.proofs.Parts.{own_id, from_world, from_zone, parts_refined}
 use Rattle.line_system.proofs.Ordinals.{taken_next}
-use Rattle.link_laws.proofs.One_zone.{zone_positive}
-use Rattle.plain_state.specs.Relation.{Linked}
-use Rattle.link_laws.proofs.Deliveries.{deliveries_zone, deliveries_world}
-use Rattle.sound_laws.proofs.One_zone.{zone_only}
+use Rattle.refinement_laws.proofs.One_zone.{zone_positive}
+use Rattle.plain_state.specs.Refinement.{Refines}
+use Rattle.refinement_laws.proofs.Deliveries.{deliveries_zone, deliveries_world}
+use Rattle.invariant_laws.proofs.One_zone.{zone_only}
 
-sounds : (line : Line) → IsLineOfOneZone line → (t : ℕ) → (ts : List Event) → Kept line ts → Sound line t (story_of line ts)
-sounds line l t ts h = sound_story line t ts l h
+sounds : (line : Line) → IsLineOfOneZone line → (t : ℕ) → (ts : List Event) → Kept line ts → Invariant line t (story_of line ts)
+sounds line l t ts h = invariant_story line t ts l h
 
 pub built_plain : (line : Line) (es : List Event) (p : Parts) (u : Taken) (z : ZoneKept) (e : Event) → IsKept line es p u z → plain_built line (plain_of p) e ≡ built line (story_of line es) e
-built_plain line es p u z e k = sym (built_is line es (plain_of p) e k.one_zone k.kept k.linked (sounds line k.one_zone))
+built_plain line es p u z e k = sym (built_is line es (plain_of p) e k.one_zone k.kept k.refines (sounds line k.one_zone))
 
 pub too_many_plain : (line : Line) (es : List Event) (p : Parts) (u : Taken) (z : ZoneKept) (e : Event) → IsKept line es p u z → plain_too_many (plain_of p) e ≡ too_many (story_of line es) e
-too_many_plain line es p u z e k = sym (too_many_is line es (plain_of p) e k.one_zone k.kept k.linked (sounds line k.one_zone))
+too_many_plain line es p u z e k = sym (too_many_is line es (plain_of p) e k.one_zone k.kept k.refines (sounds line k.one_zone))
 
 pub premise_plain : (line : Line) (es : List Event) (p : Parts) (u : Taken) (z : ZoneKept) (e : Event) → IsKept line es p u z → built line (story_of line es) e ≡ true → plain_premise (plain_of p) e ≡ premise_of line (story_of line es) e
-premise_plain line es p u z e k b = sym (premise_is line es (plain_of p) e k.one_zone k.kept k.linked (sounds line k.one_zone) b)
+premise_plain line es p u z e k b = sym (premise_is line es (plain_of p) e k.one_zone k.kept k.refines (sounds line k.one_zone) b)
 
 all_three : (a b c : Bool) → a ≡ true → b ≡ false → c ≡ true → (a && (not b && c)) ≡ true
 all_three a b c h k l = grind arith
@@ -73,15 +73,15 @@ step_fits line p (Train t long error speed kind) n b m c few = (grind (arith, na
 step_fits line p (Step ms moves) n b m c few = let most : ms ≤ 60000 = grind (arith, nat_tests) in omega arith
 step_fits line p _ n b m c few = tt
 
-message_in_range : (line : Line) (s : Story) (from to k : ℕ) (r : Option Msg) → ((t : ℕ) → Sound line t s) → slice_get (sent from to s) k ≡ r → TakenInRange r
-message_in_range line s from to k None sound h = tt
-message_in_range line s from to k (Some m) sound h = in_range line s from to k m sound h
+message_in_range : (line : Line) (s : Story) (from to k : ℕ) (r : Option Msg) → ((t : ℕ) → Invariant line t s) → slice_get (sent from to s) k ≡ r → TakenInRange r
+message_in_range line s from to k None invariant h = tt
+message_in_range line s from to k (Some m) invariant h = in_range line s from to k m invariant h
 
 -- the message that an event takes has its fields in their ranges
-event_in_range : (line : Line) (s : Story) (p : Plain) (e : Event) → Linked line s p → ((t : ℕ) → Sound line t s) → built line s e ≡ true → EventInRange p e
-event_in_range line s p (Take to from number) k sound h =
-    message_in_range line s from to (number - 1) (slice_get (p.links from to) (number - 1)) sound (ap (λ (ms : List Msg). slice_get ms (number - 1)) (sym (k.links from to h)))
-event_in_range line s p _ k sound h = tt
+event_in_range : (line : Line) (s : Story) (p : Plain) (e : Event) → Refines line s p → ((t : ℕ) → Invariant line t s) → built line s e ≡ true → EventInRange p e
+event_in_range line s p (Take to from number) k invariant h =
+    message_in_range line s from to (number - 1) (slice_get (p.links from to) (number - 1)) invariant (ap (λ (ms : List Msg). slice_get ms (number - 1)) (sym (k.links from to h)))
+event_in_range line s p _ k invariant h = tt
 
 module _ (h : History) (line : Line) (xs : List Event) (p : Parts) (u : Taken) (z : ZoneKept) (e : Event) (g : Goes h line xs p u z e) where
   few_now : length (reverse xs) < 100000000
@@ -106,8 +106,8 @@ module _ (h : History) (line : Line) (xs : List Event) (p : Parts) (u : Taken) (
       rw (more, reverse_next xs e) (record {
         one_zone = g.keeps.one_zone;
         kept = (admitted_now, g.keeps.kept);
-        linked = rw n (parts_linked line (effects line (story_of line (reverse xs)) e ∷ story_of line (reverse xs)) g.keeps.one_zone p (own_id line (story_of line (reverse xs)) p g.keeps.one_zone g.keeps.linked) (story_of line (reverse xs)) e built_now
-            (linked_next line (reverse xs) (plain_of p) e g.keeps.one_zone few_now g.keeps.kept admitted_now g.keeps.linked (sounds line g.keeps.one_zone)));
+        refines = rw n (parts_refined line (effects line (story_of line (reverse xs)) e ∷ story_of line (reverse xs)) g.keeps.one_zone p (own_id line (story_of line (reverse xs)) p g.keeps.one_zone g.keeps.refines) (story_of line (reverse xs)) e built_now
+            (refines_next line (reverse xs) (plain_of p) e g.keeps.one_zone few_now g.keeps.kept admitted_now g.keeps.refines (sounds line g.keeps.one_zone)));
         taken_zone = ap (λ (x : Taken). x.by_zone) t ∙ ordinals.0;
         taken_world = ap (λ (x : Taken). x.by_world) t ∙ ordinals.1;
         on_line = on;
@@ -116,22 +116,22 @@ module _ (h : History) (line : Line) (xs : List Event) (p : Parts) (u : Taken) (
 
   pub go_lines : (plain_effect line (plain_of p) e).lines ≡ (effects h.line (story_of h.line h.events) e).lines
   go_lines =
-      let same = effect_is line (reverse xs) (plain_of p) e g.keeps.one_zone few_now g.keeps.kept admitted_now g.keeps.linked (sounds line g.keeps.one_zone) in
+      let same = effect_is line (reverse xs) (plain_of p) e g.keeps.one_zone few_now g.keeps.kept admitted_now g.keeps.refines (sounds line g.keeps.one_zone) in
       sym same.1 ∙ ap (λ (y : History). (effects y.line (story_of y.line y.events) e).lines) g.view
 
   pub go_premise : plain_premise (plain_of p) e ≡ 0
-  go_premise = sym (premise_is line (reverse xs) (plain_of p) e g.keeps.one_zone g.keeps.kept g.keeps.linked (sounds line g.keeps.one_zone) built_now) ∙ kept_now
+  go_premise = sym (premise_is line (reverse xs) (plain_of p) e g.keeps.one_zone g.keeps.kept g.keeps.refines (sounds line g.keeps.one_zone) built_now) ∙ kept_now
 
   pub go_built : plain_built line (plain_of p) e ≡ true
-  go_built = sym (built_is line (reverse xs) (plain_of p) e g.keeps.one_zone g.keeps.kept g.keeps.linked (sounds line g.keeps.one_zone)) ∙ built_now
+  go_built = sym (built_is line (reverse xs) (plain_of p) e g.keeps.one_zone g.keeps.kept g.keeps.refines (sounds line g.keeps.one_zone)) ∙ built_now
 
   pub go_room : plain_too_many (plain_of p) e ≡ false
-  go_room = sym (too_many_is line (reverse xs) (plain_of p) e g.keeps.one_zone g.keeps.kept g.keeps.linked (sounds line g.keeps.one_zone)) ∙ within_now
+  go_room = sym (too_many_is line (reverse xs) (plain_of p) e g.keeps.one_zone g.keeps.kept g.keeps.refines (sounds line g.keeps.one_zone)) ∙ within_now
 
   pub go_clock : p.world.clock ≤ 60000 * length xs
   go_clock =
       let c = clock_most line (reverse xs) g.keeps.kept in
-      let t = g.keeps.linked.time in
+      let t = g.keeps.refines.time in
       let n = length-reverse xs in
       omega arith
 
@@ -139,7 +139,7 @@ module _ (h : History) (line : Line) (xs : List Event) (p : Parts) (u : Taken) (
   go_fits = step_fits line (plain_of p) e (length xs) go_built go_room go_clock g.few
 
   pub go_range : EventInRange (plain_of p) e
-  go_range = event_in_range line (story_of line (reverse xs)) (plain_of p) e g.keeps.linked (λ t. sound_story line t (reverse xs) g.keeps.one_zone g.keeps.kept) built_now
+  go_range = event_in_range line (story_of line (reverse xs)) (plain_of p) e g.keeps.refines (λ t. invariant_story line t (reverse xs) g.keeps.one_zone g.keeps.kept) built_now
 
 pub go_longer : (h : History) (line : Line) (xs ys : List Event) (e : Event) → record { line = line; events = reverse xs } ≡ h → ys ≡ xs ++ e ∷ []
     → as_history line (reverse ys) ≡ as_history h.line (e ∷ h.events)
@@ -158,17 +158,17 @@ due_at : (line : Line) (es : List Event) (p : Parts) (u : Taken) (z : ZoneKept) 
     → deliveries line (story_of line es) to ≡ takes_from to (due_of p u to).0 ((due_of p u to).1 + 1) ((due_of p u to).2 - (due_of p u to).1)
 due_at line es p u z zero k act =
     let ordinal = k.taken_world in
-    let zone = own_id line (story_of line es) p k.one_zone k.linked in
-    deliveries_world line k.one_zone (story_of line es) (plain_of p) k.linked
+    let zone = own_id line (story_of line es) p k.one_zone k.refines in
+    deliveries_world line k.one_zone (story_of line es) (plain_of p) k.refines
     ∙ (ap (λ (ms : List Msg). takes_from 0 (zone_id line) (taken_most 0 (zone_id line) (story_of line es) + 1) (length ms - taken_most 0 (zone_id line) (story_of line es))) (from_zone line k.one_zone p zone)
     ∙ (ap (λ (n : ℕ). takes_from 0 (zone_id line) (n + 1) (length p.to_world - n)) (sym ordinal)
     ∙ ap (λ (f : ℕ). takes_from 0 f (u.by_world + 1) (length p.to_world - u.by_world)) (sym zone)))
 due_at line es p u z (suc to) k act =
     let there : suc to ≡ zone_id line = zone_only line (suc to) k.one_zone.one (zone_actor line to act) in
     let ordinal = k.taken_zone in
-    let zone = own_id line (story_of line es) p k.one_zone k.linked in
+    let zone = own_id line (story_of line es) p k.one_zone k.refines in
     ap (λ (a : ℕ). deliveries line (story_of line es) a) there
-    ∙ (deliveries_zone line k.one_zone (story_of line es) (plain_of p) k.linked
+    ∙ (deliveries_zone line k.one_zone (story_of line es) (plain_of p) k.refines
     ∙ (ap (λ (ms : List Msg). takes_from (zone_id line) 0 (taken_most (zone_id line) 0 (story_of line es) + 1) (length ms - taken_most (zone_id line) 0 (story_of line es))) (from_world line k.one_zone p zone)
     ∙ (ap (λ (n : ℕ). takes_from (zone_id line) 0 (n + 1) (length p.to_zone - n)) (sym ordinal)
     ∙ (ap (λ (a : ℕ). takes_from a 0 (u.by_zone + 1) (length p.to_zone - u.by_zone)) (sym there)

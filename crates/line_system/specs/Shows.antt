@@ -9,8 +9,8 @@ use Rattle.definitions.specs.World.{clock}
 use Rattle.definitions.specs.Control.{controls, now_of}
 use Rattle.definitions.specs.Authority.{held, envelope}
 use Rattle.plain_state.specs.World.{PlainWorld, find_train}
-use Rattle.plain_state.specs.Zone.{find_way, hold_has}
-use Rattle.plain_state.specs.Relation.{world_train}
+use Rattle.plain_state.specs.Zone.{find_controlled, hold_has}
+use Rattle.plain_state.specs.Refinement.{world_train}
 use Rattle.world_sim.specs.World.{IsWorldOn}
 use Rattle.zone_state.specs.Zone.{ZoneKept, IsZoneOn, IsEnvelope}
 
@@ -24,8 +24,8 @@ pub record ShowsNotions (line : Line) (s : Story) (z : ℕ) (y : ZoneKept) : Typ
   pub fits : IsZoneOn line y
   pub id : y.plain.id ≡ z
   pub time : y.plain.clock ≡ now_of z s
-  pub holds : (t : ℕ) (point : Point) → hold_has line y.plain.id (find_way t y.plain.trains) point ≡ held line z t s point
-  pub envelopes : (t : ℕ) (set : Option Points) → IsEnvelope (layout line) (find_way t y.plain.trains) set → ShowsEnvelope line z t s set
+  pub holds : (t : ℕ) (point : Point) → hold_has line y.plain.id (find_controlled t y.plain.trains) point ≡ held line z t s point
+  pub envelopes : (t : ℕ) (set : Option Points) → IsEnvelope (layout line) (find_controlled t y.plain.trains) set → ShowsEnvelope line z t s set
 
 -- of the world: its clock, and of each train that is declared what the history tells of it
 pub record ShowsWorld (line : Line) (s : Story) (w : PlainWorld) : Type 0 where

@@ -14,14 +14,14 @@ use Rattle.document_laws.proofs.Throughout.{safe_throughout}
 use Rattle.document_laws.proofs.Whole.{document_gives, document_gives_nothing}
 use Rattle.document_laws.proofs.Refused.{refused_in_script, refused_among_items, unfinished}
 use Rattle.safe_laws.proofs.Safety.{safe_story, granted_story}
-use Rattle.step_laws.proofs.Every.{sound_story}
+use Rattle.step_laws.proofs.Every.{invariant_story}
 use Rattle.run_engine.specs.Running.{Gave, Ran, Causes}
 use Rattle.run_engine.specs.Complete.{Completed, NoFault, Complete, Settled, RefusesDocument}
 
 -- the trace with its status, where no fault was counted
 settled : (s : Status) (g : Given) (before now : Option (List ℕ)) (r0 r w0 w : ℕ) → Gave s g before now → Causes s r0 r w0 w → NoFault r0 r w0 w → Settled s g before now
 settled status.Read g before now r0 r w0 w h c n = absurd (n.read c.1)
-settled status.Write g before now r0 r w0 w h c n = absurd (n.wrote c.1)
+settled status.Write g before now r0 r w0 w h c n = absurd (n.wrote c.2)
 settled status.Memory g before now r0 r w0 w h c n = tt
 settled status.Done g before now r0 r w0 w h c n = h
 settled status.Usage g before now r0 r w0 w h c n = h
@@ -73,4 +73,4 @@ refuses_no_memory (Some bytes) before now r0 r w0 w = λ n. record { in_script =
 
 -- the history that any bytes are is safe after each of its events, and each event added what it granted
 pub all_safe : (bytes : List ℕ) → SafeThroughout bytes
-all_safe bytes = safe_throughout (λ line events l k n. record { safe = safe_story line events l k n (λ t ts h. sound_story line t ts l h); granted = granted_story line events l k (λ t ts h. sound_story line t ts l h) }) bytes
+all_safe bytes = safe_throughout (λ line events l k n. record { safe = safe_story line events l k n (λ t ts h. invariant_story line t ts l h); granted = granted_story line events l k (λ t ts h. invariant_story line t ts l h) }) bytes

@@ -1,5 +1,5 @@
 -- One text behind another, where memory may be wanting.
-use Rattle.std.proofs.Common.{◌≡◌, ℕ, List, [], ◌++◌, Option, Some, None, Result, Ok, Err, OnOk, refl, sym, ◌∙◌, ap, subst, append-nil, arith}
+use Rattle.std.proofs.Common.{◌≡◌, ℕ, ◌≤◌, List, [], ◌++◌, Option, Some, None, Result, Ok, Err, OnOk, refl, sym, ◌∙◌, ap, subst, append-nil, arith}
 use Rattle.edge_io.specs.declared.writing.WriteFault.{WriteFault}
 use Rattle.edge_io.specs.Reading.{WroteIs, WroteFront}
 use Rattle.edge_io.specs.Writing.{Wrote}
@@ -52,13 +52,13 @@ module _ {K : Type 0} (written : K → Option (List ℕ)) (count : K → ℕ) wh
   pub then : {X Y : Type 0} (a b c : K) (s t : List ℕ) (x : X) (r : Result Y Fault) → Does written count a b s (Ok x) → Does written count b c t r → Does written count a c (s ++ t) r
   unfolding Does
   then a b c s t x (Ok y) h k = (wrote_then (written a) (written b) (written c) s t h.0 k.0, k.1 ∙ h.1)
-  then a b c s t x (Err faults.Write) h k = (front_then (written a) (written b) (written c) s t h.0 k.0, subst (λ n. Rose n (count c)) h.1 k.1)
+  then a b c s t x (Err faults.Write) h k = (front_then (written a) (written b) (written c) s t h.0 k.0, subst (λ n. n ≤ count c) h.1 k.1, subst (λ n. Rose n (count c)) h.1 k.2)
   then a b c s t x (Err faults.Memory) h k = (front_then (written a) (written b) (written c) s t h.0 k.0, k.1 ∙ h.1)
 
   -- what failed before more was written
   pub stop : (X Y : Type 0) (a b : K) (s t : List ℕ) (e : Fault) → Does {X = X} written count a b s (Err e) → Does {X = Y} written count a b (s ++ t) (Err e)
   unfolding Does
-  stop X Y a b s t faults.Write h = (front_more (written a) (written b) s t h.0, h.1)
+  stop X Y a b s t faults.Write h = (front_more (written a) (written b) s t h.0, h.1, h.2)
   stop X Y a b s t faults.Memory h = (front_more (written a) (written b) s t h.0, h.1)
 
   -- what a call's clause tells of a text that is spelled another way
@@ -73,5 +73,5 @@ module _ {K : Type 0} (written : K → Option (List ℕ)) (count : K → ℕ) wh
 
   pub told_cause : (X : Type 0) (a b : K) (t : List ℕ) (fault : Fault) (r0 r w0 : ℕ) → Does {X = X} written count a b t (Err fault) → r ≡ r0 → count a ≡ w0 → PumpCauses (Err (cut_of fault)) r0 r w0 (count b)
   unfolding Does
-  told_cause X a b t faults.Write r0 r w0 h e f = (e, subst (λ n. Rose n (count b)) f h.1)
+  told_cause X a b t faults.Write r0 r w0 h e f = (e, subst (λ n. n ≤ count b) f h.1, subst (λ n. Rose n (count b)) f h.2)
   told_cause X a b t faults.Memory r0 r w0 h e f = (e, h.1 ∙ f)

@@ -1,6 +1,7 @@
 -- No text line ends a document as done.
 use Rattle.std.proofs.Common.{◌≡◌, ℕ, List, [], Option, Some, None, Bool, true, false, refl, sym, ◌∙◌, ap}
 use Rattle.std.specs.Prelude.{nat_eq}
+use Rattle.list_laws.proofs.Tests.{by_test}
 use Rattle.edge_io.specs.declared.status.Status.TheVariants as status
 use Rattle.edge_io.specs.declared.stream.Got.TheVariants.{End}
 use Rattle.edge_io.specs.Streams.{Gives}
@@ -18,7 +19,6 @@ use Rattle.definitions.specs.Premises.{built, too_many, premise_of}
 use Rattle.definitions.specs.Endings.{status_of}
 use Rattle.definitions.specs.Trace.{Stage, Items, Script, Over, is_over, stage_read, stage_ends, second_zone, item_read, event_read, Given}
 use Rattle.byte_feed.specs.Feed.{Feed, fed_gives}
-use Rattle.byte_feed.proofs.Lines.{by_test}
 use Rattle.byte_feed.proofs.Streams.{fed_over}
 use Rattle.run_engine.specs.declared.pump.Cut.{Cut}
 use Rattle.run_engine.specs.declared.pump.Cut.TheVariants as cuts

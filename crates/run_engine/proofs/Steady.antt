@@ -1,10 +1,8 @@
 -- One zone at most, and no more events than text lines.
-use Rattle.std.proofs.Common.{◌≡◌, ℕ, ◌+◌, ◌≤◌, List, [], ◌∷◌, ◌++◌, Bool, true, false, ◌||◌, refl, arith}
-use Rattle.std.proofs.lemmas.List.Sums.{sum_by-append}
-use Rattle.std.specs.Prelude.{nat_eq, cond, count_by}
-use Rattle.std.specs.List.{list_any}
+use Rattle.std.proofs.Common.{◌≡◌, ℕ, ◌+◌, ◌≤◌, List, Bool, true, false, refl, arith}
+use Rattle.std.specs.Prelude.{nat_eq, count_by}
+use Rattle.list_laws.proofs.Tests.{by_test}
 use Rattle.definitions.specs.declared.item.Item.{Item}
-use Rattle.definitions.specs.declared.item.Item.TheVariants.{Zone, Segment, Joint, Portal, Buffer, Silent}
 use Rattle.definitions.specs.declared.event.Event.{Event}
 use Rattle.definitions.specs.declared.document.TextLine.{TextLine}
 use Rattle.definitions.specs.declared.document.TextLine.TheVariants as says
@@ -14,36 +12,13 @@ use Rattle.definitions.specs.Steps.{story_of}
 use Rattle.definitions.specs.Rules.{is_any_zone, rule_of, finish_rule}
 use Rattle.definitions.specs.Premises.{built, too_many, premise_of}
 use Rattle.definitions.specs.Trace.{Stage, Items, Script, Over, stage_read, item_read, script_read, event_read, second_zone}
-use Rattle.byte_feed.proofs.Lines.{by_test}
+use Rattle.document_laws.proofs.Throughout.{one_more}
 use Rattle.run_engine.specs.Shown.{Steady}
-
-neither : (x y : Bool) → (x || y) ≡ false → (x ≡ false) × (y ≡ false)
-neither true y h = absurd cc
-neither false y h = (refl, h)
-
--- no item is a zone
-none_counted : (items : List Item) → list_any is_any_zone items ≡ false → count_by is_any_zone items ≡ 0
-none_counted [] h = refl
-none_counted (i ∷ items) h =
-    let k = neither (is_any_zone i) (list_any is_any_zone items) h in
-    rw k.0 (none_counted items k.1)
-
-zones_append : (xs ys : List Item) → count_by is_any_zone (xs ++ ys) ≡ count_by is_any_zone xs + count_by is_any_zone ys
-zones_append xs ys = sum_by-append (λ i. cond (is_any_zone i) 1 0) xs ys
-
--- an item that is no second zone
-more_counts : (items : List Item) (i : Item) → second_zone items i ≡ false → count_by is_any_zone items ≤ 1 → count_by is_any_zone (items ++ i ∷ []) ≤ 1
-more_counts items (Zone z) s h = omega (arith, zones_append items (Zone z ∷ []), none_counted items s)
-more_counts items (Segment s z len) e h = omega (arith, h, zones_append items (Segment s z len ∷ []))
-more_counts items (Joint a b) e h = omega (arith, h, zones_append items (Joint a b ∷ []))
-more_counts items (Portal a) e h = omega (arith, h, zones_append items (Portal a ∷ []))
-more_counts items (Buffer a) e h = omega (arith, h, zones_append items (Buffer a ∷ []))
-more_counts items (Silent ms) e h = omega (arith, h, zones_append items (Silent ms ∷ []))
 
 item_steady : (n m : ℕ) (items : List Item) (i : Item) (rule : ℕ) (second : Bool) → second_zone items i ≡ second → count_by is_any_zone items ≤ 1 → Steady m (item_read n items i second rule)
 item_steady n m items i rule true e h = tt
 item_steady n m items i rule false e h = by_test (nat_eq rule 0)
-    (λ y. rw y (more_counts items i e h))
+    (λ y. rw y (one_more items i h e))
     (λ x. rw x tt)
 
 script_steady : (n m : ℕ) (items : List Item) (rule : ℕ) → Steady m (script_read n items rule)

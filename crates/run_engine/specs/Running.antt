@@ -54,7 +54,7 @@ Pumped (Some all) first f before now r = PumpedTold all first f before now r
 abbrev pub PumpCauses : Result (Unit {0}) Cut → ℕ → ℕ → ℕ → ℕ → Type 0
 PumpCauses (Ok u) r0 r w0 w = (r ≡ r0) × (w ≡ w0)
 PumpCauses (Err cuts.Read) r0 r w0 w = (r0 ≤ r) × Rose r0 r × (w ≡ w0)
-PumpCauses (Err cuts.Write) r0 r w0 w = (r ≡ r0) × Rose w0 w
+PumpCauses (Err cuts.Write) r0 r w0 w = (r ≡ r0) × (w0 ≤ w) × Rose w0 w
 PumpCauses (Err cuts.Memory) r0 r w0 w = (r ≡ r0) × (w ≡ w0)
 
 -- a run that was cut short wrote a front of the text; any other wrote the text, and ended as it ends
@@ -82,10 +82,10 @@ ReadCut status.Read (Some bytes) (Some rest) before now = WroteWholeLines bytes 
 ReadCut status.Read (Some bytes) None before now = ⊥
 ReadCut s left rest before now = Unit {0}
 
--- a fault is answered only where that object's count rose, and nothing else lets a count rise; that of the source never falls
+-- a fault is answered only where that object's count rose, and nothing else lets a count rise; neither count falls
 abbrev pub Causes : Status → ℕ → ℕ → ℕ → ℕ → Type 0
 Causes status.Read r0 r w0 w = (r0 ≤ r) × Rose r0 r × (w ≡ w0)
-Causes status.Write r0 r w0 w = (r ≡ r0) × Rose w0 w
+Causes status.Write r0 r w0 w = (r ≡ r0) × (w0 ≤ w) × Rose w0 w
 Causes s r0 r w0 w = (r ≡ r0) × (w ≡ w0)
 
 abbrev pub cut_of : Fault → Cut

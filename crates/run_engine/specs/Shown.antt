@@ -27,7 +27,7 @@ done_early (Script line events count) = false
 done_early (Over (ends.Done n)) = true
 done_early (Over ending) = false
 
--- behind so many text lines: there is one zone at most, and no more events were read than text lines
+-- after so many text lines: there is one zone at most, and no more events were read than text lines
 abbrev pub Steady : ℕ → Stage → Type 0
 Steady n (Items items) = count_by is_any_zone items ≤ 1
 Steady n (Script line events count) = count ≤ n

@@ -22,7 +22,7 @@ use std::mem;
 /// The most bytes that an input may have.
 pub const INPUT_LIMIT: u64 = 67_108_864;
 
-/// Where a document stands: among its items, in its script behind so many events, or over.
+/// Where a document stands: among its items, in its script after so many events, or over.
 #[derive(Drop)]
 pub enum Stage {
     Items(LineBuilder),
@@ -173,7 +173,7 @@ pub fn status(ending: &Ending) -> Status
     }
 }
 
-/// A stage behind a number of text lines and of bytes.
+/// A stage after a number of text lines and of bytes.
 #[derive(Drop)]
 pub struct Reading {
     pub number: u64,

@@ -1,5 +1,6 @@
--- What a zone's take of an ask comes to: the bars and the first obstacle say it.
+-- What a zone's take of an ask gives: the bars and the first obstacle say it.
 use Rattle.std.proofs.Common.{◌≡◌, ℕ, zero, suc, ◌+◌, ◌<◌, ◌≤◌, List, [], ◌∷◌, ◌++◌, length, Option, Some, None, Bool, true, false, ◌&&◌, refl, sym, ◌∙◌, ap, subst, arith}
+use Rattle.std.proofs.lemmas.Bool.{and_parts}
 use Rattle.std.proofs.lemmas.Bool.Decides.{nat_tests}
 use Rattle.std.proofs.Math.Bool.{and-false}
 use Rattle.std.specs.Prelude.{nat_eq, nat_lt}
@@ -15,7 +16,7 @@ use Rattle.definitions.specs.declared.message.Msg.TheVariants as msg
 use Rattle.definitions.specs.declared.outcome.Obstacle.TheVariants.{NotJoined, Silent}
 use Rattle.definitions.specs.Track.{Line, seg_len, layout}
 use Rattle.definitions.specs.Ways.{PlainWay}
-use Rattle.definitions.specs.Story.{Entry as Made, Story}
+use Rattle.definitions.specs.Story.{Transition, Story}
 use Rattle.definitions.specs.Control.{controls, now_with, last_issued}
 use Rattle.definitions.specs.Longest.{counted}
 use Rattle.definitions.specs.Fronts.{report_time, silent_by}
@@ -26,8 +27,7 @@ use Rattle.definitions.specs.Safe.{IsReach, Denied, Lengthened, AnsweredByReach,
 use Rattle.definitions.specs.Zones.{zone_id}
 use Rattle.way_laws.proofs.Reach.{reach_is, reach_granted}
 use Rattle.way_laws.proofs.Grown.{grown_end}
-use Rattle.event_laws.proofs.Notions.{both}
-use Rattle.sound_laws.proofs.Sound.{Sound}
+use Rattle.invariant_laws.proofs.Invariant.{Invariant}
 use Rattle.safe_laws.proofs.Ways_held.{held_way, way_is}
 use Rattle.safe_laws.proofs.Asked.{held_way_some, held_way_within}
 
@@ -59,11 +59,11 @@ pub ask_granted : (len : Lengths) (z : ℕ) (u : TrainId) (last : ℕ) (w : Plai
 ask_granted len z u last w asked r h = rw h refl
 
 -- A take of an ask.
-module _ (line : Line) (z from number time to : ℕ) (u : TrainId) (steps : ArrayVec DirSeg) (s : Story) (l : IsLineOfOneZone line) (sound : Sound line u.0 s) where
+module _ (line : Line) (z from number time to : ℕ) (u : TrainId) (steps : ArrayVec DirSeg) (s : Story) (l : IsLineOfOneZone line) (invariant : Invariant line u.0 s) where
   abbrev asks : Msg
   asks = msg.Ask u time steps to
 
-  abbrev x : Made
+  abbrev x : Transition
   x = taking line s (Take (suc z) from number) (suc z) from (Some (msg.Ask u time steps to))
 
   abbrev now_ : ℕ
@@ -91,13 +91,13 @@ module _ (line : Line) (z from number time to : ℕ) (u : TrainId) (steps : Arra
 
   far : (w : PlainWay) → way line (suc z) u.0 s ≡ Some w → ready ≡ true → end_place (seg_len line) w.path + reach.distance ≤ total (seg_len line) (asked_way w.path.steps.items steps.items)
   far w is on =
-      let here : controls (suc z) u.0 s ≡ true = (both (controls (suc z) u.0 s) (nat_lt 0 (counted line u.0 s)) on).0 in
-      let zone : suc z ≡ zone_id line = sound.authorized.zone_alone (suc z) here in
+      let here : controls (suc z) u.0 s ≡ true = (and_parts (controls (suc z) u.0 s) (nat_lt 0 (counted line u.0 s)) on).0 in
+      let zone : suc z ≡ zone_id line = invariant.authorized.zone_alone (suc z) here in
       let control : controls (zone_id line) u.0 s ≡ true = subst (λ (n : ℕ). controls n u.0 s ≡ true) zone here in
-      let same : Some (held_way line u.0 s) ≡ Some w = sym (way_is line u.0 s l sound control) ∙ subst (λ (n : ℕ). way line n u.0 s ≡ Some w) zone is in
+      let same : Some (held_way line u.0 s) ≡ Some w = sym (way_is line u.0 s l invariant control) ∙ subst (λ (n : ℕ). way line n u.0 s ≡ Some w) zone is in
       let way_ : held_way line u.0 s ≡ w = cc in
-      let some = subst (λ (v : PlainWay). 0 < length v.path.steps.items) way_ (held_way_some line u.0 s l sound control) in
-      let within = subst (λ (v : PlainWay). end_place (seg_len line) v.path ≤ total (seg_len line) v.path.steps.items) way_ (held_way_within line u.0 s l sound control) in
+      let some = subst (λ (v : PlainWay). 0 < length v.path.steps.items) way_ (held_way_some line u.0 s l invariant control) in
+      let within = subst (λ (v : PlainWay). end_place (seg_len line) v.path ≤ total (seg_len line) v.path.steps.items) way_ (held_way_within line u.0 s l invariant control) in
       subst (λ (r : Reach). end_place (seg_len line) w.path + r.distance ≤ total (seg_len line) (asked_way w.path.steps.items steps.items)) (sym (on_way w is))
       (reach_granted line ready quiet w.path steps.items to (barring line (suc z) u.0 s) some within)
 
@@ -137,27 +137,27 @@ module _ (line : Line) (z from number time to : ℕ) (u : TrainId) (steps : Arra
 
 -- Each event.
 
-take_answered : (line : Line) (s : Story) (a f number : ℕ) (r : Option Msg) → IsLineOfOneZone line → ((t : ℕ) → Sound line t s) → (z from time to : ℕ) (u : TrainId) (steps : ArrayVec DirSeg)
+take_answered : (line : Line) (s : Story) (a f number : ℕ) (r : Option Msg) → IsLineOfOneZone line → ((t : ℕ) → Invariant line t s) → (z from time to : ℕ) (u : TrainId) (steps : ArrayVec DirSeg)
     → (taking line s (Take a f number) a f r).actor ≡ suc z → (taking line s (Take a f number) a f r).took ≡ Some (from, msg.Ask u time steps to)
     → Answered line (suc z) s u steps.items to (now_with (suc z) s (msg.Ask u time steps to)) (alarms line (suc z) s (msg.Ask u time steps to)) (taking line s (Take a f number) a f r)
-take_answered line s a f number None l sound z from time to u steps actor took = absurd cc
-take_answered line s zero f number (Some m) l sound z from time to u steps actor took = absurd cc
-take_answered line s (suc a) f number (Some m) l sound z from time to u steps actor took =
+take_answered line s a f number None l invariant z from time to u steps actor took = absurd cc
+take_answered line s zero f number (Some m) l invariant z from time to u steps actor took = absurd cc
+take_answered line s (suc a) f number (Some m) l invariant z from time to u steps actor took =
     let pair : (f, m) ≡ (from, msg.Ask u time steps to) = cc in
     let is : m ≡ msg.Ask u time steps to = ap (λ (q : ℕ × Msg). q.1) pair in
     subst (λ (k : ℕ). Answered line k s u steps.items to (now_with k s (msg.Ask u time steps to)) (alarms line k s (msg.Ask u time steps to)) (taking line s (Take (suc a) f number) (suc a) f (Some m))) actor
     (subst (λ (n : Msg). Answered line (suc a) s u steps.items to (now_with (suc a) s (msg.Ask u time steps to)) (alarms line (suc a) s (msg.Ask u time steps to)) (taking line s (Take (suc a) f number) (suc a) f (Some n))) (sym is)
-    (ask_answered line a f number time to u steps s l (sound u.0)))
+    (ask_answered line a f number time to u steps s l (invariant u.0)))
 
-pub event_answers : (line : Line) (s : Story) (e : Event) → IsLineOfOneZone line → ((t : ℕ) → Sound line t s) → (z from time to : ℕ) (u : TrainId) (steps : ArrayVec DirSeg)
+pub event_answers : (line : Line) (s : Story) (e : Event) → IsLineOfOneZone line → ((t : ℕ) → Invariant line t s) → (z from time to : ℕ) (u : TrainId) (steps : ArrayVec DirSeg)
     → (effects line s e).actor ≡ suc z → (effects line s e).took ≡ Some (from, msg.Ask u time steps to)
     → Answered line (suc z) s u steps.items to (now_with (suc z) s (msg.Ask u time steps to)) (alarms line (suc z) s (msg.Ask u time steps to)) (effects line s e)
-event_answers line s (Take a f number) l sound z from time to u steps actor took = take_answered line s a f number (message f a number s) l sound z from time to u steps actor took
-event_answers line s (Train t long error speed kind) l sound z from time to u steps actor took = absurd cc
-event_answers line s (Entry t step) l sound z from time to u steps actor took = absurd cc
-event_answers line s (Enter t) l sound z from time to u steps actor took = absurd cc
-event_answers line s (Ask t y asked limit_) l sound z from time to u steps actor took = absurd cc
-event_answers line s (Step ms moves) l sound z from time to u steps actor took = absurd cc
-event_answers line s (Report t y step offset whole) l sound z from time to u steps actor took = absurd cc
-event_answers line s (Time y t) l sound z from time to u steps actor took = absurd cc
-event_answers line s (Deliver a) l sound z from time to u steps actor took = absurd cc
+event_answers line s (Take a f number) l invariant z from time to u steps actor took = take_answered line s a f number (message f a number s) l invariant z from time to u steps actor took
+event_answers line s (Train t long error speed kind) l invariant z from time to u steps actor took = absurd cc
+event_answers line s (Entry t step) l invariant z from time to u steps actor took = absurd cc
+event_answers line s (Enter t) l invariant z from time to u steps actor took = absurd cc
+event_answers line s (Ask t y asked limit_) l invariant z from time to u steps actor took = absurd cc
+event_answers line s (Step ms moves) l invariant z from time to u steps actor took = absurd cc
+event_answers line s (Report t y step offset whole) l invariant z from time to u steps actor took = absurd cc
+event_answers line s (Time y t) l invariant z from time to u steps actor took = absurd cc
+event_answers line s (Deliver a) l invariant z from time to u steps actor took = absurd cc

@@ -1,7 +1,7 @@
 -- A message that was issued and passes a test.
 use Rattle.std.proofs.Common.{◌≡◌, ℕ, List, [], ◌∷◌, Bool, true}
 use Rattle.std.specs.List.{list_any}
-use Rattle.track_points.proofs.Some.{by_test}
+use Rattle.list_laws.proofs.Tests.{by_test}
 use Rattle.definitions.specs.declared.message.Msg.{Msg}
 use Rattle.definitions.specs.Story.{Story, ever_issued}
 use Rattle.event_laws.proofs.Issued.{AllIn, AllIssued}

@@ -15,22 +15,22 @@ use Rattle.definitions.specs.Safe.{IsLineOfOneZone, OnTrack}
 use Rattle.definitions.specs.Zones.{zone_id}
 use Rattle.way_laws.proofs.Cut.{cut_total}
 use Rattle.way_laws.proofs.Between_places.{behind_least}
-use Rattle.sound_laws.proofs.Sound.{Controlled, Sound}
-use Rattle.sound_laws.proofs.One_route.{OneRoute, one_route, path_parts, on_controls, journey_few}
+use Rattle.invariant_laws.proofs.Invariant.{ControlIs, Invariant}
+use Rattle.invariant_laws.proofs.One_route.{OneRoute, one_route, path_parts, on_controls, journey_few}
 use Rattle.safe_laws.proofs.Ways_held.{rear_behind}
 
-module _ (line : Line) (t : ℕ) (s : Story) (l : IsLineOfOneZone line) (sound : Sound line t s) (on : entered t s ≡ true) (numbers : last_issued t s < 2 ^ 27) where
+module _ (line : Line) (t : ℕ) (s : Story) (l : IsLineOfOneZone line) (invariant : Invariant line t s) (on : entered t s ≡ true) (numbers : last_issued t s < 2 ^ 27) where
   abbrev len : Lengths
   len = seg_len line
 
   control : controls (zone_id line) t s ≡ true
-  control = on_controls line t s sound.authorized on
+  control = on_controls line t s invariant.authorized on
 
-  abbrev c : Controlled line t s
-  c = sound.authorized.controlled control
+  abbrev c : ControlIs line t s
+  c = invariant.authorized.controlled control
 
   one : OneRoute line t s (longest_route line t s) (longest_end line t s)
-  one = one_route line t s sound.authorized control sound.motion
+  one = one_route line t s invariant.authorized control invariant.motion
 
   reaches : off_track (seg_len line) (journey line t s) (head t s) ≡ false
   reaches =
@@ -44,7 +44,7 @@ module _ (line : Line) (t : ℕ) (s : Story) (l : IsLineOfOneZone line) (sound :
 
   few : length (journey line t s) ≤ c.newest.mark + 24
   few =
-      let a = journey_few line t s sound.authorized control in
+      let a = journey_few line t s invariant.authorized control in
       let d = ap (λ (xs : List DirSeg). length xs) (ap (route_or_none (journey line t s)) c.longest_is) in
       let e = length-append (take c.newest.mark (journey line t s)) c.newest.path.steps.items in
       let f = (path_parts line c.newest.path c.newest_is.fits).few in
@@ -57,7 +57,7 @@ module _ (line : Line) (t : ℕ) (s : Story) (l : IsLineOfOneZone line) (sound :
   -- the longest authority's path begins no farther than the true rear
   mark_before : total (seg_len line) (take c.newest.mark (journey line t s)) ≤ rear t s
   mark_before =
-      let r = rear_behind line t s l sound control on in
+      let r = rear_behind line t s l invariant control on in
       let cut = c.cut in
       omega (arith, r, cut)
 
@@ -68,8 +68,8 @@ module _ (line : Line) (t : ℕ) (s : Story) (l : IsLineOfOneZone line) (sound :
 
   pub keeps_track : OnTrack line t s
   keeps_track = record {
-    begun = sound.motion.born on;
+    begun = invariant.motion.born on;
     reached = reaches;
     few = not_crowded;
-    mark = let j = journey_few line t s sound.authorized control in let m = c.marks in omega (arith, j, m, numbers);
+    mark = let j = journey_few line t s invariant.authorized control in let m = c.marks in omega (arith, j, m, numbers);
   }

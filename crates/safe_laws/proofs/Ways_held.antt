@@ -3,9 +3,10 @@ use Rattle.std.proofs.Common.{◌≡◌, ℕ, ◌-◌, ◌<◌, ◌≤◌, Bool,
 use Rattle.std.proofs.lemmas.Bool.Decides.{nat_tests}
 use Rattle.std.proofs.Math.Bool.{and-false}
 use Rattle.std.specs.Prelude.{nat_eq}
+use Rattle.std.proofs.lemmas.Bool.{and_parts}
+use Rattle.list_laws.proofs.Tests.{by_test}
 use Rattle.track_points.specs.declared.ids.DirSeg.{DirSeg}
 use Rattle.track_points.specs.Points.{Point, has_between}
-use Rattle.track_points.proofs.Some.{by_test}
 use Rattle.definitions.specs.Track.{Line, seg_len, layout, owner}
 use Rattle.definitions.specs.Ways.{PlainWay, way_between}
 use Rattle.definitions.specs.Story.{Story}
@@ -18,10 +19,9 @@ use Rattle.definitions.specs.Safe.{IsLineOfOneZone}
 use Rattle.definitions.specs.Zones.{zone_id}
 use Rattle.way_laws.proofs.Cut.{cut_points}
 use Rattle.way_laws.proofs.Between_places.{between_points}
-use Rattle.event_laws.proofs.Notions.{both}
 use Rattle.motion_laws.proofs.Motion.{place}
-use Rattle.sound_laws.proofs.Sound.{AuthorityIs, Controlled, FrontsAre, Sound}
-use Rattle.sound_laws.proofs.One_route.{OneRoute, one_route}
+use Rattle.invariant_laws.proofs.Invariant.{AuthorityIs, ControlIs, FrontsAre, Invariant}
+use Rattle.invariant_laws.proofs.One_route.{OneRoute, one_route}
 use Rattle.front_laws.proofs.Front_numbers.{greatest_front_is}
 use Rattle.front_laws.proofs.Way_begins.{rear_before_least, way_behind}
 use Rattle.safe_laws.proofs.Zones.{points_owner}
@@ -29,10 +29,6 @@ use Rattle.safe_laws.proofs.Zones.{points_owner}
 -- the way of a train that the line's zone controls
 abbrev pub held_way : Line → ℕ → Story → PlainWay
 held_way line t s = way_between (seg_len line) (longest_route line t s) (least_rear line (zone_id line) t s) (longest_end line t s)
-
--- two steps that are told as one are one
-pub some_step : (a b : DirSeg) → Some a ≡ Some b → a ≡ b
-some_step a b h = cc
 
 -- the one route of a train has a point between two places
 abbrev pub route_has : Line → ℕ → Story → ℕ → ℕ → Point → Bool
@@ -49,31 +45,31 @@ held_controls line z t s point h = by_test (controls z t s)
     (λ n. absurd (let c : false ≡ true = sym (held_none line z t s point n) ∙ h in cc))
 
 -- What is held for a train that the zone controls.
-module _ (line : Line) (t : ℕ) (s : Story) (l : IsLineOfOneZone line) (sound : Sound line t s) (control : controls (zone_id line) t s ≡ true) where
-  abbrev c : Controlled line t s
-  c = sound.authorized.controlled control
+module _ (line : Line) (t : ℕ) (s : Story) (l : IsLineOfOneZone line) (invariant : Invariant line t s) (control : controls (zone_id line) t s ≡ true) where
+  abbrev c : ControlIs line t s
+  c = invariant.authorized.controlled control
 
   abbrev f : FrontsAre line t s
-  f = sound.fronts control
+  f = invariant.fronts control
 
   pub one : OneRoute line t s (longest_route line t s) (longest_end line t s)
-  one = one_route line t s sound.authorized control sound.motion
+  one = one_route line t s invariant.authorized control invariant.motion
 
-  pub rear_is : least_rear line (zone_id line) t s ≡ (sound.fronts control).lo - long_of t s
-  rear_is = rear_before_least line t s sound.motion sound.authorized control f
+  pub rear_is : least_rear line (zone_id line) t s ≡ (invariant.fronts control).lo - long_of t s
+  rear_is = rear_before_least line t s invariant.motion invariant.authorized control f
 
-  pub front_is : greatest_front line (zone_id line) t s ≡ (sound.fronts control).hi
+  pub front_is : greatest_front line (zone_id line) t s ≡ (invariant.fronts control).hi
   front_is = greatest_front_is line t s f
 
   pub rear_before : least_rear line (zone_id line) t s < longest_end line t s
   rear_before =
-      let o = f.ordered in let w = f.within in let r = rear_is in let long = sound.authorized.long_some c.declared in let m = f.long in
+      let o = f.ordered in let w = f.within in let r = rear_is in let long = invariant.authorized.long_some c.declared in let m = f.long in
       omega arith
 
   -- the least rear is not before the true one
   pub rear_behind : entered t s ≡ true → least_rear line (zone_id line) t s ≤ rear t s
   rear_behind on =
-      let b = way_behind line t s sound.motion sound.authorized control f in
+      let b = way_behind line t s invariant.motion invariant.authorized control f in
       let p : place t s ≡ head t s = rw on refl in
       omega (arith, b, p)
 
@@ -110,4 +106,4 @@ module _ (line : Line) (t : ℕ) (s : Story) (l : IsLineOfOneZone line) (sound :
 
   pub held_points : (point : Point) → held line (zone_id line) t s point ≡ true → route_has line t s (least_rear line (zone_id line) t s) (longest_end line t s) point ≡ true
   held_points point h =
-      sym (way_points point) ∙ (both (nat_eq (owner line point) (zone_id line)) _ h).1
+      sym (way_points point) ∙ (and_parts (nat_eq (owner line point) (zone_id line)) _ h).1

@@ -2,43 +2,43 @@
 use Rattle.std.proofs.Common.{◌≡◌, ℕ, ◌+◌, ◌≤◌, ◌<◌, List, [], ◌∷◌, Option, Some, None, Bool, true, false, ◌&&◌, refl, sym, ◌∙◌, ap, subst, arith}
 use Rattle.std.proofs.lemmas.Bool.Decides.{nat_tests}
 use Rattle.std.specs.Prelude.{nat_eq, nat_lt}
+use Rattle.std.proofs.lemmas.Bool.{and_parts}
+use Rattle.list_laws.proofs.Tests.{by_test}
 use Rattle.track_points.specs.declared.ids.DirSeg.{DirSeg}
 use Rattle.track_points.specs.declared.ids.TrainId.{TrainId}
 use Rattle.track_points.specs.declared.path.Path.{Path}
 use Rattle.track_points.specs.Points.{Point, total, end_place}
-use Rattle.track_points.proofs.Some.{by_test}
 use Rattle.arrayvec.specs.ArrayVec.{ArrayVec}
 use Rattle.definitions.specs.declared.event.Event.{Event}
 use Rattle.definitions.specs.declared.message.Msg.{Msg}
 use Rattle.definitions.specs.declared.message.Msg.TheVariants as msg
 use Rattle.definitions.specs.Track.{Line, seg_len}
 use Rattle.definitions.specs.Ways.{PlainWay, way_between}
-use Rattle.definitions.specs.Story.{Entry as Made, Story}
+use Rattle.definitions.specs.Story.{Transition, Story}
 use Rattle.definitions.specs.World.{entered, goes_on}
 use Rattle.definitions.specs.Control.{grants_entry, controls, knows, knows_most, now_with, last_issued}
 use Rattle.definitions.specs.Longest.{counted, longest_end, longest_route}
 use Rattle.definitions.specs.Fronts.{report_time, silent_by, least_rear}
 use Rattle.definitions.specs.Authority.{way, holder_of}
 use Rattle.definitions.specs.Limit.{Reach, asked_way, continues, path_of, reach_from, barring, limit}
-use Rattle.definitions.specs.Steps.{path_to, zone_step, made}
+use Rattle.definitions.specs.Steps.{path_to, zone_step, transition}
 use Rattle.definitions.specs.Safe.{IsLineOfOneZone}
 use Rattle.event_laws.proofs.Answers.{entry_cases, ask_cases, time_cases}
 use Rattle.definitions.specs.Zones.{zone_id}
 use Rattle.motion_laws.proofs.Motion.{Motion}
-use Rattle.event_laws.proofs.Notions.{both}
 use Rattle.event_laws.proofs.Issued.{no_issue, NoAuth}
 use Rattle.way_laws.proofs.Reach.{reach_granted}
 use Rattle.event_laws.proofs.Controls.{controls_knows}
-use Rattle.sound_laws.proofs.Sound.{path_fits, FrontsAre, RequestTrue, Authorized}
+use Rattle.invariant_laws.proofs.Invariant.{path_fits, FrontsAre, RequestTrue, Authorized}
 use Rattle.authority_laws.proofs.Auth_new.{NewAuth}
 use Rattle.authority_laws.proofs.Auth_entry.{entry_new}
-use Rattle.sound_laws.proofs.One_route.{path_parts}
+use Rattle.invariant_laws.proofs.One_route.{path_parts}
 use Rattle.authority_laws.proofs.Way_is.{way_facts}
 use Rattle.authority_laws.proofs.Auth_again.{way_fits, renewed_way}
 use Rattle.authority_laws.proofs.Auth_longer.{granted_ready, grant_fits, granted_way}
 
 -- no authority of the train, or one
-pub data Issues (line : Line) (t : ℕ) (s : Story) (x : Made) : Type 0 where
+pub data Issues (line : Line) (t : ℕ) (s : Story) (x : Transition) : Type 0 where
   quiet : NoAuth t x.issued → Issues line t s x
   issues : NewAuth line t s x → Issues line t s x
 
@@ -51,7 +51,7 @@ some_way : (v w : PlainWay) → Some v ≡ Some w → v ≡ w
 some_way v w h = cc
 
 -- the granted way, for the way by whatever name
-granted : (line : Line) (t : ℕ) (s : Story) (one : IsLineOfOneZone line) (m : Motion t s) (k : Authorized line t s) (c : controls (zone_id line) t s ≡ true) (f : FrontsAre line t s) (x : Made) (asked : List DirSeg) (v : PlainWay)
+granted : (line : Line) (t : ℕ) (s : Story) (one : IsLineOfOneZone line) (m : Motion t s) (k : Authorized line t s) (c : controls (zone_id line) t s ≡ true) (f : FrontsAre line t s) (x : Transition) (asked : List DirSeg) (v : PlainWay)
     → v ≡ way_between (seg_len line) (longest_route line t s) (least_rear line (zone_id line) t s) (longest_end line t s) → (u : TrainId) (d : ℕ) → continues line v.path.steps.items asked ≡ true → 0 < d
     → end_place (seg_len line) v.path + d ≤ total (seg_len line) (asked_way v.path.steps.items asked)
     → path_fits line (path_to (seg_len line) v.path.from (asked_way v.path.steps.items asked) (end_place (seg_len line) v.path + d)) ≡ true
@@ -70,25 +70,25 @@ module _ (line : Line) (s : Story) (one : IsLineOfOneZone line) (e : Event) (sti
   abbrev z : ℕ
   z = zone_id line
 
-  abbrev step : Msg → Made
-  step q = made e (zone_id line) (Some (from, q)) (zone_step line (zone_id line) from s q)
+  abbrev step : Msg → Transition
+  step q = transition e (zone_id line) (Some (from, q)) (zone_step line (zone_id line) from s q)
 
   own : nat_eq u.0 u.0 ≡ true
   own = grind (arith, nat_tests)
 
   pub entry_issues : (time long error speed : ℕ) (equipped : Bool) (st : DirSeg) → RequestTrue line u.0 s (msg.EntryAsk u time long error speed equipped st)
-      → Issues line u.0 s (made e (zone_id line) (Some (from, msg.EntryAsk u time long error speed equipped st)) (zone_step line (zone_id line) from s (msg.EntryAsk u time long error speed equipped st)))
+      → Issues line u.0 s (transition e (zone_id line) (Some (from, msg.EntryAsk u time long error speed equipped st)) (zone_step line (zone_id line) from s (msg.EntryAsk u time long error speed equipped st)))
   entry_issues time long error speed equipped st asked =
       let x = step (msg.EntryAsk u time long error speed equipped st) in
       entry_cases (Issues line u.0 s x) z (knows z u.0 s) (knows_most z s) (seg_len line st.seg.0) u long st (holder_of line z s st.seg.0)
       (λ h. quiet (no_issue u.0 x.issued h))
       (λ free fitting h. issues (entry_new line u.0 s one.valid m k (controls_knows z u.0 s ∙ free) long error speed st (asked own) fitting x u from time equipped refl refl own (still u.0) h))
 
-  ungranted_ask : (time : ℕ) (steps : ArrayVec DirSeg) (to : ℕ) → grants_entry (zone_id line) u.0 (made e (zone_id line) (Some (from, msg.Ask u time steps to)) (zone_step line (zone_id line) from s (msg.Ask u time steps to))) ≡ false
+  ungranted_ask : (time : ℕ) (steps : ArrayVec DirSeg) (to : ℕ) → grants_entry (zone_id line) u.0 (transition e (zone_id line) (Some (from, msg.Ask u time steps to)) (zone_step line (zone_id line) from s (msg.Ask u time steps to))) ≡ false
   ungranted_ask time steps to = grind arith
 
   pub ask_issues : (time : ℕ) (steps : ArrayVec DirSeg) (to : ℕ)
-      → Issues line u.0 s (made e (zone_id line) (Some (from, msg.Ask u time steps to)) (zone_step line (zone_id line) from s (msg.Ask u time steps to)))
+      → Issues line u.0 s (transition e (zone_id line) (Some (from, msg.Ask u time steps to)) (zone_step line (zone_id line) from s (msg.Ask u time steps to)))
   ask_issues time steps to =
       let q = msg.Ask u time steps to in
       let x = step q in
@@ -100,7 +100,7 @@ module _ (line : Line) (s : Story) (one : IsLineOfOneZone line) (e : Event) (sti
       (λ h. quiet (no_issue u.0 x.issued h))
       (λ v is far h. by_test ready
       (λ go.
-      let r = both (controls z u.0 s) (nat_lt 0 (counted line u.0 s)) go in
+      let r = and_parts (controls z u.0 s) (nat_lt 0 (counted line u.0 s)) go in
       let c = r.0 in
       let f = fronts c in
       let w = way_facts line u.0 s k c f in
@@ -124,10 +124,10 @@ module _ (line : Line) (s : Story) (one : IsLineOfOneZone line) (e : Event) (sti
           (λ y. y)
           (λ n. absurd (let z : 0 < counted line u.0 s = grind (arith, nat_tests) in let none = k.uncounted n in omega (arith, z, none)))
 
-  ungranted_time : (time : ℕ) → grants_entry (zone_id line) u.0 (made e (zone_id line) (Some (from, msg.Time time u)) (zone_step line (zone_id line) from s (msg.Time time u))) ≡ false
+  ungranted_time : (time : ℕ) → grants_entry (zone_id line) u.0 (transition e (zone_id line) (Some (from, msg.Time time u)) (zone_step line (zone_id line) from s (msg.Time time u))) ≡ false
   ungranted_time time = grind arith
 
-  pub time_issues : (time : ℕ) → Issues line u.0 s (made e (zone_id line) (Some (from, msg.Time time u)) (zone_step line (zone_id line) from s (msg.Time time u)))
+  pub time_issues : (time : ℕ) → Issues line u.0 s (transition e (zone_id line) (Some (from, msg.Time time u)) (zone_step line (zone_id line) from s (msg.Time time u)))
   time_issues time =
       let x = step (msg.Time time u) in
       time_cases (Issues line u.0 s x) (controls z u.0 s) (counted line u.0 s) (last_issued u.0 s) u (way line z u.0 s)

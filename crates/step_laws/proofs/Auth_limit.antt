@@ -1,14 +1,15 @@
 -- The limit that a train holds is the end of an issued authority, and not behind its head.
 use Rattle.std.proofs.Common.{◌≡◌, ℕ, ◌+◌, ◌≤◌, ◌<◌, [], ◌∷◌, Option, Some, true, false, refl, sym, ◌∙◌, ap, arith}
 use Rattle.std.proofs.lemmas.Bool.Decides.{nat_tests}
+use Rattle.std.proofs.lemmas.Option.{same_Some}
 use Rattle.std.specs.Prelude.{nat_lt}
+use Rattle.list_laws.proofs.Tests.{by_test}
 use Rattle.track_points.specs.declared.ids.DirSeg.{DirSeg}
-use Rattle.track_points.proofs.Some.{by_test}
 use Rattle.definitions.specs.declared.event.Event.{Event}
 use Rattle.definitions.specs.declared.event.Event.TheVariants.{Step}
 use Rattle.definitions.specs.Track.{Line, seg_len}
 use Rattle.definitions.specs.Premises.{stops_rightly}
-use Rattle.definitions.specs.Story.{Entry as Made, Story, ever, world_took}
+use Rattle.definitions.specs.Story.{Transition, Story, ever, world_took}
 use Rattle.definitions.specs.World.{enters, entered, moved, head, journey, Authority, authority_end, HeldPath, entry_authority, taken_number, last_number, limit_held, held_end, limit_place}
 use Rattle.definitions.specs.Control.{controls}
 use Rattle.definitions.specs.Farther.{end_or_0}
@@ -21,10 +22,9 @@ use Rattle.event_laws.proofs.Notions.{entered_same}
 use Rattle.motion_laws.proofs.Motion.{Motion, head_on, head_next, place_grows, heads_grow, motion_step}
 use Rattle.event_laws.proofs.Does.{effect_event}
 use Rattle.motion_laws.proofs.Moves.{head_step}
-use Rattle.way_laws.proofs.Track.{some_same}
-use Rattle.sound_laws.proofs.Sound.{end_read, AuthorityIs, FirstIs, LimitIs, Authorized}
-use Rattle.sound_laws.proofs.One_route.{first_end}
-use Rattle.sound_laws.proofs.First_steps.{end_same}
+use Rattle.invariant_laws.proofs.Invariant.{end_read, AuthorityIs, FirstIs, LimitIs, Authorized}
+use Rattle.invariant_laws.proofs.One_route.{first_end}
+use Rattle.invariant_laws.proofs.First_steps.{end_same}
 use Rattle.authority_laws.proofs.Auth_quiet.{Going, AuthsStay, held_stays}
 use Rattle.front_laws.proofs.Route_goes_on.{read_stays}
 use Rattle.step_laws.proofs.Auth_taken.{TakenIs}
@@ -35,7 +35,7 @@ moved_stops line t s (Step ms moves) h l = head_step line t s moves.items h l
 moved_stops line t s _ h l = omega (arith, l)
 
 first_step : (line : Line) (t : ℕ) (s : Story) (a b : Authority) (f : FirstIs line t s a) (g : FirstIs line t s b) → f.step ≡ g.step
-first_step line t s a b f g = some_same f.step g.step (sym f.first ∙ g.first)
+first_step line t s a b f g = same_Some f.step g.step (sym f.first ∙ g.first)
 
 -- a train that has not come on has no number
 off_number : (t : ℕ) (s : Story) → entered t s ≡ false → last_number t s ≡ 0
@@ -46,15 +46,15 @@ off_number t (e ∷ s) off = by_test (enters t e.event)
     (λ a. let before : entered t s ≡ false = rw a at off in rw (a, before) (off_number t s before))
 
 -- and the last one never goes back
-pub number_grows : (t : ℕ) (x : Made) (s : Story) → (enters t x.event ≡ true → entered t s ≡ false) → last_number t s ≤ last_number t (x ∷ s)
+pub number_grows : (t : ℕ) (x : Transition) (s : Story) → (enters t x.event ≡ true → entered t s ≡ false) → last_number t s ≤ last_number t (x ∷ s)
 number_grows t x s once = by_test (enters t x.event)
     (λ y. let z = off_number t s (once y) in omega (arith, z))
     (λ n. by_test (entered t s)
     (λ on. let e = number_next t x s n on in omega (arith, e))
     (λ off. let e = number_off t x s n off in omega (arith, e)))
 
-module _ (line : Line) (t : ℕ) (s : Story) (x : Made) (k : Authorized line t s) (c : controls (zone_id line) t s ≡ true) (stay : AuthsStay line t s x) where
-  -- the end of an authority held, on the journey one entry further
+module _ (line : Line) (t : ℕ) (s : Story) (x : Transition) (k : Authorized line t s) (c : controls (zone_id line) t s ≡ true) (stay : AuthsStay line t s x) where
+  -- the end of an authority held, on the journey one transition further
   held_is : (h : HeldPath) → limit_held t (x ∷ s) ≡ Some h → AuthorityIs line t s h.authority → limit_place line t (x ∷ s) ≡ authority_end (seg_len line) (journey line t s) h.authority
   held_is h is a = ap (λ (g : Option HeldPath). held_end (seg_len line) (journey line t (x ∷ s)) g) is ∙ end_same line t x s stay.first h.authority a.mark
 

@@ -1,16 +1,16 @@
--- One entry further: what is counted, who controls, what was issued, and what the train holds.
+-- One transition further: what is counted, who controls, what was issued, and what the train holds.
 use Rattle.std.proofs.Common.{◌≡◌, ℕ, ◌≤◌, ◌<◌, List, ◌∷◌, Option, Some, None, true, false, not, refl, sym, ◌∙◌, ap, subst, arith}
 use Rattle.std.proofs.lemmas.Bool.Decides.{nat_tests}
-use Rattle.std.proofs.lemmas.Bool.{eqb-true}
+use Rattle.std.proofs.lemmas.Bool.{eqb-true, and_parts}
 use Rattle.std.specs.Prelude.{nat_eq, nat_le, is_some}
-use Rattle.track_points.proofs.Some.{by_test}
+use Rattle.list_laws.proofs.Tests.{by_test}
 use Rattle.definitions.specs.declared.event.Event.{Event}
 use Rattle.definitions.specs.declared.event.Event.TheVariants.{Train, Enter}
 use Rattle.definitions.specs.declared.message.Msg.{Msg}
 use Rattle.definitions.specs.Track.{Line, seg_len, ranged}
 use Rattle.definitions.specs.Rules.{is_line}
 use Rattle.definitions.specs.Premises.{built, enters_rightly}
-use Rattle.definitions.specs.Story.{Entry as Made, Story, world_took}
+use Rattle.definitions.specs.Story.{Transition, Story, world_took}
 use Rattle.definitions.specs.World.{Facts, facts_or, facts_in, facts_of, is_declared, long_of, enters, entered, journey, Authority, HeldPath, is_auth, taken_number, taken_path, taken_entry, entry_authority, last_number}
 use Rattle.definitions.specs.Control.{grants_entry, controls, last_issued}
 use Rattle.definitions.specs.Fold.{account}
@@ -21,11 +21,11 @@ use Rattle.definitions.specs.Zones.{zone_id}
 use Rattle.event_laws.proofs.Issued.{AllIn, AllIssued, all_weaker, in_all_weaker}
 use Rattle.event_laws.proofs.Admitted.{Admitted}
 use Rattle.event_laws.proofs.Stays.{long_stays}
-use Rattle.event_laws.proofs.Notions.{both, told_stays, told_now, entered_same}
+use Rattle.event_laws.proofs.Notions.{told_stays, told_now, entered_same}
 use Rattle.event_laws.proofs.Controls.{controls_same, known_same}
 use Rattle.motion_laws.proofs.Moves.{enter_once}
-use Rattle.sound_laws.proofs.Sound.{end_read, AuthorityIs, AuthIs, AuthTrue, FrontsAre, SomeIs, Controlled, EntryHeld, LimitIs, Authorized}
-use Rattle.sound_laws.proofs.One_route.{numbered_controls}
+use Rattle.invariant_laws.proofs.Invariant.{end_read, AuthorityIs, AuthIs, AuthTrue, FrontsAre, SomeIs, ControlIs, EntryHeld, LimitIs, Authorized}
+use Rattle.invariant_laws.proofs.One_route.{numbered_controls}
 use Rattle.authority_laws.proofs.Auth_places.{off_before, first_is_stays}
 use Rattle.event_laws.proofs.Last_issued.{last_quiet, last_grows}
 use Rattle.front_laws.proofs.Unshrunk.{counted_unanswered}
@@ -44,14 +44,14 @@ use Rattle.authority_laws.proofs.Rear_grows.{rear_grows}
 declared_long : (line : Line) (t : ℕ) (s : Story) (e : Event) → built line s e ≡ true → is_some (facts_in t e) ≡ true → 1 ≤ (facts_or (facts_in t e)).long
 declared_long line t s (Train u long error speed kind) h its = by_test (nat_eq u.0 t)
     (λ y.
-    let b = both (ranged 1 1000000 long) _ (both (ranged 1 65535 u.0) _ h).1 in
-    let r = (both (nat_le 1 long) (nat_le long 1000000) b.0).0 in
+    let b = and_parts (ranged 1 1000000 long) _ (and_parts (ranged 1 65535 u.0) _ h).1 in
+    let r = (and_parts (nat_le 1 long) (nat_le long 1000000) b.0).0 in
     let some : 1 ≤ long = grind (arith, nat_tests) in
     rw y some)
     (λ n. absurd (let c : false ≡ true = rw n at its in cc))
 declared_long line t s _ h its = absurd cc
 
-pub long_next : (line : Line) (t : ℕ) (s : Story) (x : Made) → built line s x.event ≡ true → (is_declared t s ≡ true → 1 ≤ long_of t s) → is_declared t (x ∷ s) ≡ true → 1 ≤ long_of t (x ∷ s)
+pub long_next : (line : Line) (t : ℕ) (s : Story) (x : Transition) → built line s x.event ≡ true → (is_declared t s ≡ true → 1 ≤ long_of t s) → is_declared t (x ∷ s) ≡ true → 1 ≤ long_of t (x ∷ s)
 long_next line t s x b k h = by_facts (facts_of t s) refl
   where
     by_facts : (f : Option Facts) → facts_of t s ≡ f → 1 ≤ long_of t (x ∷ s)
@@ -61,26 +61,26 @@ long_next line t s x b k h = by_facts (facts_of t s) refl
         let o = k d in
         omega (arith, l, o)
     by_facts None is =
-        let now_ : facts_of t (x ∷ s) ≡ facts_in t x.event = told_now (λ (y : Made). facts_in t y.event) x s is in
+        let now_ : facts_of t (x ∷ s) ≡ facts_in t x.event = told_now (λ (y : Transition). facts_in t y.event) x s is in
         let l = declared_long line t s x.event b (sym (ap (λ (g : Option Facts). is_some g) now_) ∙ h) in
         let e = ap (λ (g : Option Facts). (facts_or g).long) now_ in
         omega (arith, e, l)
 
 -- What is counted.
 
-pub uncounted_next : (line : Line) (t : ℕ) (s : Story) (x : Made) → Authorized line t s → AnswerIs t s x.took → entered t (x ∷ s) ≡ false → counted line t (x ∷ s) ≡ 0
+pub uncounted_next : (line : Line) (t : ℕ) (s : Story) (x : Transition) → Authorized line t s → AnswerIs t s x.took → entered t (x ∷ s) ≡ false → counted line t (x ∷ s) ≡ 0
 uncounted_next line t s x k answer off =
     let before = off_before t x s off in
     counted_unanswered line t x s k.unshrunk (answer before) ∙ k.uncounted before
 
 -- Who controls.
 
-pub alone_next : (line : Line) (t : ℕ) (s : Story) (x : Made) → Authorized line t s → ((y : ℕ) → grants_entry y t x ≡ true → y ≡ zone_id line) → (y : ℕ) → controls y t (x ∷ s) ≡ true → y ≡ zone_id line
+pub alone_next : (line : Line) (t : ℕ) (s : Story) (x : Transition) → Authorized line t s → ((y : ℕ) → grants_entry y t x ≡ true → y ≡ zone_id line) → (y : ℕ) → controls y t (x ∷ s) ≡ true → y ≡ zone_id line
 alone_next line t s x k granted y h = by_test (grants_entry y t x)
     (λ g. granted y g)
     (λ n. k.zone_alone y (sym (controls_same y t x s n) ∙ h))
 
-module _ (line : Line) (t : ℕ) (s : Story) (x : Made) (valid : is_line line ≡ true) (k : Authorized line t s) (fronts : controls (zone_id line) t s ≡ true → FrontsAre line t s)
+module _ (line : Line) (t : ℕ) (s : Story) (x : Transition) (valid : is_line line ≡ true) (k : Authorized line t s) (fronts : controls (zone_id line) t s ≡ true → FrontsAre line t s)
     (going : Going line t s x) where
   pub unknown_next : Issues line t s x → controls (zone_id line) t (x ∷ s) ≡ false → last_issued t (x ∷ s) ≡ 0
   unknown_next (issues n) h = absurd (let c : true ≡ false = sym n.controlled ∙ h in cc)
@@ -160,7 +160,7 @@ module _ (line : Line) (t : ℕ) (s : Story) (x : Made) (valid : is_line line �
       let g = granted_once c i in
       rear_grows line t s x (fronts c) g (known_same (zone_id line) t x s g) (stay_next c i).ends
 
-  pub controlled_next : Issues line t s x → controls (zone_id line) t (x ∷ s) ≡ true → Controlled line t (x ∷ s)
+  pub controlled_next : Issues line t s x → controls (zone_id line) t (x ∷ s) ≡ true → ControlIs line t (x ∷ s)
   controlled_next (issues n) h = control_new line t s x k going.moved n (rear_next (issues n))
   controlled_next (quiet q) h =
       let g = quiet_grants (zone_id line) t x q in
@@ -219,13 +219,13 @@ module _ (line : Line) (t : ℕ) (s : Story) (x : Made) (valid : is_line line �
   entry_next i taken h is = by_held (entry_authority t s) refl
     where
       by_held : (g : Option HeldPath) → entry_authority t s ≡ g → EntryHeld line t (x ∷ s) h
-      by_held None was = entry_stays i h (taken_first taken was h (sym (told_now (λ (y : Made). taken_entry t (world_took y)) x s was) ∙ is))
-      by_held (Some g) was = entry_stays i h (k.entry h (was ∙ sym (told_stays (λ (y : Made). taken_entry t (world_took y)) x s g was) ∙ is))
+      by_held None was = entry_stays i h (taken_first taken was h (sym (told_now (λ (y : Transition). taken_entry t (world_took y)) x s was) ∙ is))
+      by_held (Some g) was = entry_stays i h (k.entry h (was ∙ sym (told_stays (λ (y : Transition). taken_entry t (world_took y)) x s g was) ∙ is))
 
   module _ (a : Admitted line s x.event) where
     -- a train that comes on holds its entry authority
     holds : (e : Event) → enters_rightly s e ≡ true → enters t e ≡ true → is_some (entry_authority t s) ≡ true
-    holds (Enter u) h its = subst (λ (n : ℕ). is_some (entry_authority n s) ≡ true) (eqb-true u.0 t its) (both (is_some (entry_authority u.0 s)) (not (entered u.0 s)) h).0
+    holds (Enter u) h its = subst (λ (n : ℕ). is_some (entry_authority n s) ≡ true) (eqb-true u.0 t its) (and_parts (is_some (entry_authority u.0 s)) (not (entered u.0 s)) h).0
     holds _ h its = absurd cc
 
     some_held : (g : Option HeldPath) → entry_authority t s ≡ g → is_some g ≡ true → (h : HeldPath) × (entry_authority t s ≡ Some h)
@@ -235,7 +235,7 @@ module _ (line : Line) (t : ℕ) (s : Story) (x : Made) (valid : is_line line �
     held_some : is_some (entry_authority t s) ≡ true → is_some (entry_authority t (x ∷ s)) ≡ true
     held_some h =
         let g = some_held (entry_authority t s) refl h in
-        ap (λ (o : Option HeldPath). is_some o) (told_stays (λ (y : Made). taken_entry t (world_took y)) x s g.0 g.1)
+        ap (λ (o : Option HeldPath). is_some o) (told_stays (λ (y : Transition). taken_entry t (world_took y)) x s g.0 g.1)
 
     pub came_next : entered t (x ∷ s) ≡ true → is_some (entry_authority t (x ∷ s)) ≡ true
     came_next on = by_test (enters t x.event)

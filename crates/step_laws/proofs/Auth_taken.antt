@@ -2,22 +2,22 @@
 use Rattle.std.proofs.Common.{◌≡◌, ℕ, zero, suc, ◌-◌, ◌≤◌, List, Option, Some, None, true, false, refl, sym, ◌∙◌, subst, arith}
 use Rattle.std.proofs.lemmas.Bool.{eqb-true}
 use Rattle.std.specs.Prelude.{nat_eq}
-use Rattle.track_points.proofs.Some.{by_test}
+use Rattle.list_laws.proofs.Tests.{by_test}
 use Rattle.definitions.specs.declared.event.Event.{Event}
 use Rattle.definitions.specs.declared.event.Event.TheVariants.{Take}
 use Rattle.definitions.specs.declared.message.Msg.{Msg}
 use Rattle.definitions.specs.declared.message.Msg.TheVariants as msg
 use Rattle.definitions.specs.Track.{Line}
-use Rattle.definitions.specs.Story.{Entry as Made, Story, by_world, world_took}
+use Rattle.definitions.specs.Story.{Transition, Story, by_world, world_took}
 use Rattle.definitions.specs.World.{entered, HeldPath, Authority, auth_number, taken_number, taken_path}
 use Rattle.definitions.specs.Control.{grants_entry, last_issued}
-use Rattle.definitions.specs.Steps.{world_takes, zone_step, made, effects}
+use Rattle.definitions.specs.Steps.{world_takes, zone_step, transition, effects}
 use Rattle.definitions.specs.Safe.{IsLineOfOneZone}
 use Rattle.event_laws.proofs.Grants.{granter, quiet_grants}
 use Rattle.definitions.specs.Zones.{zone_id}
 use Rattle.event_laws.proofs.Notions.{number_most}
 use Rattle.event_laws.proofs.Admitted.{Admitted}
-use Rattle.sound_laws.proofs.Sound.{RequestTrue, AuthIs, AuthTrue, Authorized}
+use Rattle.invariant_laws.proofs.Invariant.{RequestTrue, AuthIs, AuthTrue, Authorized}
 use Rattle.front_laws.proofs.Unshrunk.{answers}
 use Rattle.event_laws.proofs.Answers.{world_none}
 use Rattle.event_laws.proofs.Does.{by_does, take_actors, take_issued}
@@ -33,7 +33,7 @@ pub record TakenIs (line : Line) (t : ℕ) (s : Story) (took : Option (ℕ × Ms
 abbrev pub AnswerIs : ℕ → Story → Option (ℕ × Msg) → Type 0
 AnswerIs t s took = entered t s ≡ false → answers t took ≡ false
 
-pub record TookIs (line : Line) (t : ℕ) (s : Story) (x : Made) : Type 0 where
+pub record TookIs (line : Line) (t : ℕ) (s : Story) (x : Transition) : Type 0 where
   pub world : TakenIs line t s (world_took x)
   pub answer : AnswerIs t s x.took
   pub zone : (y : ℕ) → grants_entry y t x ≡ true → y ≡ zone_id line
@@ -92,14 +92,14 @@ pub effect_took_is : (line : Line) (s : Story) → IsLineOfOneZone line → (t :
 effect_took_is line s one t auth e a = by_does line s e (λ x. TookIs line t s x)
     (λ b x i. took_none line t s e b x.issued x.lines)
     (λ from m k.
-    let x = made (Take 0 from k.number) 0 (Some (from, m)) (world_takes s from m) in
+    let x = transition (Take 0 from k.number) 0 (Some (from, m)) (world_takes s from m) in
     record {
       world = auth_taken line t s from m (number_most (auth_number t) from 0 s (k.number - 1) m k.was_sent) (take_issued (AuthTrue line t s) s e 0 from m auth.auths k);
       answer = answer_taken line t s from m (take_issued (RequestTrue line t s) s e 0 from m auth.requests k);
       zone = λ y h. absurd (let c : false ≡ true = sym (quiet_grants y t x (world_none t s from m)) ∙ h in cc);
     })
     (λ z from m k.
-    let x = made (Take (suc z) from k.number) (suc z) (Some (from, m)) (zone_step line (suc z) from s m) in
+    let x = transition (Take (suc z) from k.number) (suc z) (Some (from, m)) (zone_step line (suc z) from s m) in
     record {
       world = no_taken line t s;
       answer = answer_taken line t s from m (take_issued (RequestTrue line t s) s e (suc z) from m auth.requests k);

@@ -2,7 +2,7 @@
 use Rattle.std.proofs.Common.{◌≡◌, ℕ, ◌≤◌, [], ◌∷◌, true, refl, subst, sym, arith}
 use Rattle.definitions.specs.declared.event.Event.{Event}
 use Rattle.definitions.specs.Track.{Line}
-use Rattle.definitions.specs.Story.{Entry as Made, Story, ever, first_told, greatest_issued}
+use Rattle.definitions.specs.Story.{Transition, Story, ever, first_told, greatest_issued}
 use Rattle.definitions.specs.World.{last_number}
 use Rattle.definitions.specs.Control.{controls, last_issued}
 use Rattle.definitions.specs.Fold.{account}
@@ -15,7 +15,7 @@ use Rattle.event_laws.proofs.Issued.{AllIssued}
 use Rattle.event_laws.proofs.Admitted.{Admitted}
 use Rattle.event_laws.proofs.Does.{effect_event}
 use Rattle.motion_laws.proofs.Moves.{enter_once}
-use Rattle.sound_laws.proofs.Sound.{RequestTrue, Authorized, Sound}
+use Rattle.invariant_laws.proofs.Invariant.{RequestTrue, Authorized, Invariant}
 use Rattle.event_laws.proofs.Last_issued.{last_grows}
 use Rattle.authority_laws.proofs.Auth_new.{counted_next}
 use Rattle.authority_laws.proofs.Auth_quiet.{Going}
@@ -47,24 +47,24 @@ authorized_start line t = record {
   limit = λ h. absurd cc;
 }
 
-module _ (line : Line) (s : Story) (e : Event) (one : IsLineOfOneZone line) (a : Admitted line s e) (timed : Timed s) (sound : (t : ℕ) → Sound line t s) (t : ℕ) where
-  abbrev x : Made
+module _ (line : Line) (s : Story) (e : Event) (one : IsLineOfOneZone line) (a : Admitted line s e) (timed : Timed s) (invariant : (t : ℕ) → Invariant line t s) (t : ℕ) where
+  abbrev x : Transition
   x = effects line s e
 
   abbrev k : Authorized line t s
-  k = (sound t).authorized
+  k = (invariant t).authorized
 
   acts : Admitted line s (effects line s e).event
   acts = subst (λ (y : Event). Admitted line s y) (sym (effect_event line s e)) a
 
   issue : Issues line t s (effects line s e)
-  issue = effect_issues line s one sound t e a
+  issue = effect_issues line s one invariant t e a
 
   took : TookIs line t s (effects line s e)
   took = effect_took_is line s one t k e a
 
   goes : Going line t s (effects line s e)
-  goes = going line t s e a (sound t).motion k
+  goes = going line t s e a (invariant t).motion k
 
   numbers : last_number t s ≤ last_number t (effects line s e ∷ s)
   numbers = number_grows t x s (λ y. enter_once t s x.event acts.entering y)
@@ -77,32 +77,32 @@ module _ (line : Line) (s : Story) (e : Event) (one : IsLineOfOneZone line) (a :
   authorized_next = record {
     long_some = long_next line t s x acts.form k.long_some;
     counted_most = counted_grows;
-    unshrunk = unshrunk_next line t s x one.valid k (sound t).fronts goes issue;
-    reads = reads_next line t s x one.valid k (sound t).fronts goes issue;
-    rising = rising_next line t s x one.valid k (sound t).fronts goes issue numbers;
-    unread = unread_next line t s x one.valid k (sound t).fronts goes issue;
-    last_most = last_next line t s x one.valid k (sound t).fronts goes acts took.world;
+    unshrunk = unshrunk_next line t s x one.valid k (invariant t).fronts goes issue;
+    reads = reads_next line t s x one.valid k (invariant t).fronts goes issue;
+    rising = rising_next line t s x one.valid k (invariant t).fronts goes issue numbers;
+    unread = unread_next line t s x one.valid k (invariant t).fronts goes issue;
+    last_most = last_next line t s x one.valid k (invariant t).fronts goes acts took.world;
     uncounted = uncounted_next line t s x k took.answer;
     zone_alone = alone_next line t s x k took.zone;
-    unknown = unknown_next line t s x one.valid k (sound t).fronts goes issue;
-    controlled = controlled_next line t s x one.valid k (sound t).fronts goes issue;
-    auths = auths_next line t s x one.valid k (sound t).fronts goes issue;
+    unknown = unknown_next line t s x one.valid k (invariant t).fronts goes issue;
+    controlled = controlled_next line t s x one.valid k (invariant t).fronts goes issue;
+    auths = auths_next line t s x one.valid k (invariant t).fronts goes issue;
     requests = requests_next;
-    entry = entry_next line t s x one.valid k (sound t).fronts goes issue took.world;
-    came_on = came_next line t s x one.valid k (sound t).fronts goes acts;
-    limit = limit_after line t s x one.valid k (sound t).fronts goes acts issue took.world;
+    entry = entry_next line t s x one.valid k (invariant t).fronts goes issue took.world;
+    came_on = came_next line t s x one.valid k (invariant t).fronts goes acts;
+    limit = limit_after line t s x one.valid k (invariant t).fronts goes acts issue took.world;
   }
     where
       counted_grows : counted line t (effects line s e ∷ s) ≤ last_issued t (effects line s e ∷ s)
       counted_grows = let c = counted_next line t s k x in let g = last_grows t x s in omega (arith, c, g)
 
   pub ends_next : controls (zone_id line) t s ≡ true → longest_end line t s ≤ longest_end line t (effects line s e ∷ s)
-  ends_next c = (stay_next line t s x one.valid k (sound t).fronts goes c issue).ends
+  ends_next c = (stay_next line t s x one.valid k (invariant t).fronts goes c issue).ends
 
-pub authorized_step : (line : Line) (s : Story) (e : Event) → IsLineOfOneZone line → Admitted line s e → Timed s → ((t : ℕ) → Sound line t s) → (t : ℕ) → Authorized line t (effects line s e ∷ s)
-authorized_step line s e one a timed sound t = authorized_next line s e one a timed sound t
+pub authorized_step : (line : Line) (s : Story) (e : Event) → IsLineOfOneZone line → Admitted line s e → Timed s → ((t : ℕ) → Invariant line t s) → (t : ℕ) → Authorized line t (effects line s e ∷ s)
+authorized_step line s e one a timed invariant t = authorized_next line s e one a timed invariant t
 
 -- the longest end of a controlled train never goes back
-pub ends_grow : (line : Line) (s : Story) (e : Event) → IsLineOfOneZone line → Admitted line s e → Timed s → ((t : ℕ) → Sound line t s) → (t : ℕ)
+pub ends_grow : (line : Line) (s : Story) (e : Event) → IsLineOfOneZone line → Admitted line s e → Timed s → ((t : ℕ) → Invariant line t s) → (t : ℕ)
     → controls (zone_id line) t s ≡ true → longest_end line t s ≤ longest_end line t (effects line s e ∷ s)
-ends_grow line s e one a timed sound t c = ends_next line s e one a timed sound t c
+ends_grow line s e one a timed invariant t c = ends_next line s e one a timed invariant t c

@@ -1,4 +1,4 @@
--- Sound is kept by every event.
+-- Invariant is kept by every event.
 use Rattle.std.proofs.Common.{◌≡◌, ℕ, List, [], ◌∷◌, true, ◌&&◌, arith}
 use Rattle.definitions.specs.declared.event.Event.{Event}
 use Rattle.definitions.specs.Track.{Line}
@@ -13,14 +13,14 @@ use Rattle.front_laws.proofs.Front_step.{takes_some}
 use Rattle.event_laws.proofs.Admitted.{Admitted, admitted}
 use Rattle.motion_laws.proofs.Motion.{Timed, motion_start, motion_step, heads_grow}
 use Rattle.motion_laws.proofs.Times.{timed_step, timed_story}
-use Rattle.sound_laws.proofs.Sound.{Sound}
-use Rattle.sound_laws.proofs.Journeys_stay.{journeys_start, journeys_stay}
+use Rattle.invariant_laws.proofs.Invariant.{Invariant}
+use Rattle.invariant_laws.proofs.Journeys_stay.{journeys_start, journeys_stay}
 use Rattle.step_laws.proofs.Authorized_step.{authorized_start, authorized_step, ends_grow}
 use Rattle.front_laws.proofs.Reports.{reports_start, reports_step}
 use Rattle.front_laws.proofs.Front_step.{fronts_start, fronts_step}
 
-pub sound_start : (line : Line) (t : ℕ) → Sound line t []
-sound_start line t = record {
+pub invariant_start : (line : Line) (t : ℕ) → Invariant line t []
+invariant_start line t = record {
   motion = motion_start t;
   journeys = journeys_start line t;
   authorized = authorized_start line t;
@@ -28,8 +28,8 @@ sound_start line t = record {
   fronts = fronts_start line t;
 }
 
-pub sound_step : (line : Line) (s : Story) (e : Event) → IsLineOfOneZone line → Admitted line s e → Timed s → ((t : ℕ) → Sound line t s) → (t : ℕ) → Sound line t (effects line s e ∷ s)
-sound_step line s e l a timed k t =
+pub invariant_step : (line : Line) (s : Story) (e : Event) → IsLineOfOneZone line → Admitted line s e → Timed s → ((t : ℕ) → Invariant line t s) → (t : ℕ) → Invariant line t (effects line s e ∷ s)
+invariant_step line s e l a timed k t =
     let motion = motion_step line t s e a (k t).motion in
     let authorized = authorized_step line s e l a timed k t in
     record {
@@ -44,8 +44,8 @@ sound_step line s e l a timed k t =
     shrinks : (nat_eq (effects line s e).actor (zone_id line) && takes_some t (account line t s) (effects line s e).took) ≡ true → ⊥
     shrinks y = let n = none_taken t (account line t s) (effects line s e).took (k t).authorized.unshrunk in grind arith
 
-pub sound_story : (line : Line) (t : ℕ) (es : List Event) → IsLineOfOneZone line → Kept line es → Sound line t (story_of line es)
+pub invariant_story : (line : Line) (t : ℕ) (es : List Event) → IsLineOfOneZone line → Kept line es → Invariant line t (story_of line es)
 unfolding story_of Kept
-sound_story line t [] l k = sound_start line t
-sound_story line t (e ∷ es) l k =
-    sound_step line (story_of line es) e l (admitted line (story_of line es) e k.0) (timed_story line es k.1) (λ u. sound_story line u es l k.1) t
+invariant_story line t [] l k = invariant_start line t
+invariant_story line t (e ∷ es) l k =
+    invariant_step line (story_of line es) e l (admitted line (story_of line es) e k.0) (timed_story line es k.1) (λ u. invariant_story line u es l k.1) t

@@ -1,2 +1,2 @@
-//! What is sound of a train is kept by every event.
+//! The invariant of a train is kept by every event.
 #![tactic(auto)]

@@ -5,14 +5,14 @@ use Rattle.std.proofs.Math.ListN.{set}
 use Rattle.std.proofs.lemmas.Bool.Decides.{nat_tests}
 use Rattle.std.proofs.lemmas.List.Quantifiers.{position-Some}
 use Rattle.std.proofs.lemmas.List.Sums.{fails_before_first}
-use Rattle.track_points.proofs.Some.{by_test}
+use Rattle.std.proofs.lemmas.Bool.{and_parts}
+use Rattle.list_laws.proofs.Tests.{by_test}
 use Rattle.definitions.specs.Track.{Line}
 use Rattle.definitions.specs.Premises.{ascending}
 use Rattle.plain_state.specs.declared.WorldTrain.{WorldTrain}
 use Rattle.plain_state.specs.World.{PlainWorld, find_train, change_train, moved_train}
 use Rattle.plain_state.specs.Admits.{may_move_found}
 use Rattle.track_points.specs.declared.ids.TrainId.{TrainId}
-use Rattle.way_laws.proofs.Lines.{both}
 use Rattle.world_sim.specs.World.{speed_fits, put, is_train, ascends, IsTrainOn, AllOn}
 
 abbrev as_world : ℕ → List WorldTrain → PlainWorld
@@ -95,8 +95,8 @@ pub may_still : (line : Line) (x : TrainId × ℕ) (moves : List (TrainId × ℕ
 unfolding ascending
 may_still line x [] t trains l a h = refl
 may_still line x (y ∷ moves) t trains l a h =
-    let k = both (nat_lt t y.0.0) (ascending y.0.0 moves) a in
-    let m = both (may_move_found trains y) (list_all (may_move_found trains) moves) h in
+    let k = and_parts (nat_lt t y.0.0) (ascending y.0.0 moves) a in
+    let m = and_parts (may_move_found trains y) (list_all (may_move_found trains) moves) h in
     let after : t < y.0.0 = let b = k.0 in grind (arith, nat_tests) in
     let n : nat_eq x.0.0 y.0.0 ≡ false = grind (arith, nat_tests) in
     let e = found_apart x.0.0 y.0.0 (moved_train line x.1) trains (λ z. refl) n in
@@ -106,7 +106,7 @@ may_still line x (y ∷ moves) t trains l a h =
 pub ascends_from : (t : ℕ) (moves : List (TrainId × ℕ)) → ascending t moves ≡ true → ascends moves ≡ true
 unfolding ascending
 ascends_from t [] h = refl
-ascends_from t (y ∷ moves) h = (both (nat_lt t y.0.0) (ascending y.0.0 moves) h).1
+ascends_from t (y ∷ moves) h = (and_parts (nat_lt t y.0.0) (ascending y.0.0 moves) h).1
 
 changed_at : (t : ℕ) (f : WorldTrain → WorldTrain) (xs : List WorldTrain) (i : ℕ) (d : WorldTrain) → i < length xs → is_train t (get_or xs i d) ≡ true
     → ((k : ℕ) → k < i → is_train t (get_or xs k d) ≡ false) → set xs i (f (get_or xs i d)) ≡ change_train t f xs

@@ -1,21 +1,20 @@
 -- A head that goes on along the track.
-use Rattle.std.proofs.Common.{◌≡◌, ℕ, zero, suc, ◌+◌, ◌-◌, ◌<◌, ◌≤◌, ◌^◌, true, false, List, [], ◌∷◌, length, refl, sym, ap, subst, ◌∙◌, arith, nat_eq, nat_lt, nat_le, Option, Some, None}
+use Rattle.std.proofs.Common.{◌≡◌, ℕ, zero, suc, ◌+◌, ◌-◌, ◌<◌, ◌≤◌, ◌^◌, true, false, List, [], ◌∷◌, length, refl, sym, ap, subst, ◌∙◌, arith, nat_eq, nat_le, Option, Some, None}
 use Rattle.std.proofs.lemmas.Bool.Decides.{nat_tests}
+use Rattle.list_laws.proofs.Tests.{by_test}
 use Rattle.track_points.specs.declared.ids.DirSeg.{DirSeg}
 use Rattle.track_points.specs.Points.{Lengths, total, steps_to}
-use Rattle.track_points.proofs.Some.{by_test}
 use Rattle.definitions.specs.Track.{Line, seg_len, next_step, track_from, track_to}
 use Rattle.definitions.specs.Rules.{is_line}
 use Rattle.definitions.specs.Premises.{on_line}
 use Rattle.definitions.specs.Ways.{front_at}
-use Rattle.line_map.specs.declared.line.After.{After}
 use Rattle.line_map.specs.declared.line.After.TheVariants.{Plain, Portal, Buffer}
 use Rattle.line_map.specs.Next.{AfterIs}
 use Rattle.plain_state.specs.declared.Head.{Head}
 use Rattle.way_laws.proofs.Lines.{follower_on_line, long_on_line}
 use Rattle.way_laws.proofs.Track.{next_follows}
 use Rattle.way_laws.proofs.Route.{journey_any}
-use Rattle.world_sim.specs.World.{Reaches, IsHeadOn, HeadIs, moved_to}
+use Rattle.world_sim.specs.World.{Reaches, IsHeadOn, moved_to}
 
 -- what is behind a step
 pub next_there : (next : Option DirSeg) (b : DirSeg) → AfterIs next (Plain b) → next ≡ Some b

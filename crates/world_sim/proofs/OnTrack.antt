@@ -1,15 +1,16 @@
 -- What holds of a train on the line, through each of its steps.
-use Rattle.std.proofs.Common.{◌≡◌, ℕ, zero, suc, ◌+◌, ◌-◌, ◌<◌, ◌≤◌, ◌^◌, Bool, true, false, ◌&&◌, ◌||◌, not, List, [], ◌∷◌, ◌++◌, length, take, drop, refl, sym, ap, subst, ◌∙◌, arith, nat_eq, nat_lt, nat_le, max, Option, Some, None, if◌then◌else◌}
+use Rattle.std.proofs.Common.{◌≡◌, ℕ, zero, suc, ◌+◌, ◌-◌, ◌<◌, ◌≤◌, ◌^◌, true, ◌&&◌, ◌||◌, not, List, [], ◌∷◌, ◌++◌, length, take, drop, refl, sym, ap, subst, ◌∙◌, arith, nat_eq, nat_lt, nat_le, Option, Some, None}
 use Rattle.std.specs.Prelude.{is_some, slice_get}
 use Rattle.std.proofs.lemmas.Bool.Decides.{nat_tests}
-use Rattle.std.proofs.lemmas.Option.{slice_get_within}
+use Rattle.std.proofs.lemmas.Option.{slice_get_within, same_Some}
 use Rattle.std.proofs.lemmas.List.{take-append-drop, length-drop}
+use Rattle.std.proofs.lemmas.Bool.{and_parts}
+use Rattle.list_laws.proofs.Tests.{by_test}
 use Rattle.track_points.specs.declared.ids.Dir.{Dir}
 use Rattle.track_points.specs.declared.ids.Dir.TheVariants.{Up, Down}
 use Rattle.track_points.specs.declared.ids.DirSeg.{DirSeg}
 use Rattle.track_points.specs.declared.path.Path.{Path}
 use Rattle.track_points.specs.Points.{Lengths, dir_eq, step_eq, total, place_of_last, end_place, no_segment_twice}
-use Rattle.track_points.proofs.Some.{by_test}
 use Rattle.definitions.specs.Track.{Line, seg_len, has_segment, track_from, joined, last_step}
 use Rattle.definitions.specs.Rules.{is_line}
 use Rattle.definitions.specs.Premises.{on_line}
@@ -18,13 +19,12 @@ use Rattle.definitions.specs.Ways.{chained, first_len, path_in_range}
 use Rattle.plain_state.specs.declared.EntryAuthority.{EntryAuthority}
 use Rattle.plain_state.specs.declared.Head.{Head}
 use Rattle.plain_state.specs.declared.WorldTrain.{WorldTrain}
-use Rattle.plain_state.specs.World.{new_train, asked_at_portal, head_at_entry, kept_limit, come_on, moved_on, moved_train, authority_if_first, room_on, took_by, auth_fits, alone_on, covers_portal, is_step_at, lies_on, heeded_by}
+use Rattle.plain_state.specs.World.{asked_at_portal, head_at_entry, kept_limit, come_on, moved_on, moved_train, authority_if_first, room_on, took_by, auth_fits, alone_on, covers_portal, is_step_at, lies_on, heeded_by}
 use Rattle.way_laws.proofs.Cut.{last_place, total_append}
-use Rattle.way_laws.proofs.Lines.{both}
 use Rattle.way_laws.proofs.Joined.{chained_rest}
 use Rattle.way_laws.proofs.Track.{track_joined}
 use Rattle.way_path.proofs.OnSteps.{undeclared}
-use Rattle.world_sim.specs.World.{Reaches, IsHeadOn, HeadIs, EntryIs, IsTrainOn, moved_to}
+use Rattle.world_sim.specs.World.{Reaches, IsHeadOn, HeadIs, EntryIs, IsTrainOn}
 use Rattle.world_sim.proofs.Moving.{keeps}
 
 pub declares : (line : Line) (x : WorldTrain) → 1 ≤ x.train_length → x.authority ≡ None → x.head ≡ None → IsTrainOn line x
@@ -84,7 +84,7 @@ step_of s d = record { seg = record { 0 = s }; dir = d }
 
 pub same_step : (a b : DirSeg) → step_eq a b ≡ true → a ≡ b
 same_step a b h =
-    let k = both (nat_eq a.seg.0 b.seg.0) (dir_eq a.dir b.dir) h in
+    let k = and_parts (nat_eq a.seg.0 b.seg.0) (dir_eq a.dir b.dir) h in
     let s : a.seg.0 ≡ b.seg.0 = let t = k.0 in grind (arith, nat_tests) in
     ap (λ n. step_of n a.dir) s ∙ ap (step_of b.seg.0) (same_dir a.dir b.dir k.1)
 
@@ -94,10 +94,7 @@ step_there st (Some x) h = ap (λ y. Some y) (same_step x st h)
 
 drop_is : (xs : List DirSeg) (k : ℕ) (st : DirSeg) → slice_get xs k ≡ Some st → drop k xs ≡ st ∷ drop (suc k) xs
 drop_is [] k st h = absurd cc
-drop_is (x ∷ xs) zero st h = ap (λ y. y ∷ xs) (some_is x st h)
-  where
-    some_is : (x y : DirSeg) → Some x ≡ Some y → x ≡ y
-    some_is x y h = cc
+drop_is (x ∷ xs) zero st h = ap (λ y. y ∷ xs) (same_Some x st h)
 drop_is (x ∷ xs) (suc k) st h = drop_is xs k st h
 
 drop_at : (xs : List DirSeg) (k : ℕ) (st : DirSeg) → is_step_at st (slice_get xs k) ≡ true → (k < length xs) × (drop k xs ≡ st ∷ drop (suc k) xs)
@@ -107,9 +104,9 @@ ends_within : (line : Line) (path : Path) → path_in_range (seg_len line) path 
 ends_within line path h =
     let len = seg_len line in
     let steps = path.steps.items in
-    let a = both (nat_lt 0 (length steps)) (nat_le path.from (first_len len steps) && (nat_le path.to (len (last_step steps).seg.0) && nat_lt path.from (end_place len path))) h in
-    let b = both (nat_le path.from (first_len len steps)) (nat_le path.to (len (last_step steps).seg.0) && nat_lt path.from (end_place len path)) a.1 in
-    let c = both (nat_le path.to (len (last_step steps).seg.0)) (nat_lt path.from (end_place len path)) b.1 in
+    let a = and_parts (nat_lt 0 (length steps)) (nat_le path.from (first_len len steps) && (nat_le path.to (len (last_step steps).seg.0) && nat_lt path.from (end_place len path))) h in
+    let b = and_parts (nat_le path.from (first_len len steps)) (nat_le path.to (len (last_step steps).seg.0) && nat_lt path.from (end_place len path)) a.1 in
+    let c = and_parts (nat_le path.to (len (last_step steps).seg.0)) (nat_lt path.from (end_place len path)) b.1 in
     last_place len steps path.to (let t = a.0 in grind (arith, nat_tests)) (let t = c.0 in grind (arith, nat_tests))
 
 pub stays_within : (line : Line) (mark : ℕ) (path : Path) (h : Head) → is_line line ≡ true → on_line line h.step ≡ true → 0 < h.offset → h.offset ≤ seg_len line h.step.seg.0
@@ -118,12 +115,12 @@ stays_within line mark path h valid on above within fits lies =
     let len = seg_len line in
     let steps = path.steps.items in
     let k = h.mark - mark in
-    let f = both (chained line steps) (no_segment_twice steps && (path_in_range len path && nat_lt (mark + length steps) 4294967296)) fits in
-    let f2 = both (no_segment_twice steps) (path_in_range len path && nat_lt (mark + length steps) 4294967296) f.1 in
-    let f3 = both (path_in_range len path) (nat_lt (mark + length steps) 4294967296) f2.1 in
+    let f = and_parts (chained line steps) (no_segment_twice steps && (path_in_range len path && nat_lt (mark + length steps) 4294967296)) fits in
+    let f2 = and_parts (no_segment_twice steps) (path_in_range len path && nat_lt (mark + length steps) 4294967296) f.1 in
+    let f3 = and_parts (path_in_range len path) (nat_lt (mark + length steps) 4294967296) f2.1 in
     let few : mark + length steps < 2 ^ 32 = let t = f3.1 in grind (arith, nat_tests) in
-    let l = both (nat_le mark h.mark) (is_step_at h.step (slice_get steps k) && nat_le (total len (take k steps) + h.offset) (end_place len path)) lies in
-    let l2 = both (is_step_at h.step (slice_get steps k)) (nat_le (total len (take k steps) + h.offset) (end_place len path)) l.1 in
+    let l = and_parts (nat_le mark h.mark) (is_step_at h.step (slice_get steps k) && nat_le (total len (take k steps) + h.offset) (end_place len path)) lies in
+    let l2 = and_parts (is_step_at h.step (slice_get steps k)) (nat_le (total len (take k steps) + h.offset) (end_place len path)) l.1 in
     let behind : mark ≤ h.mark = let t = l.0 in grind (arith, nat_tests) in
     let before : total len (take k steps) + h.offset ≤ end_place len path = let t = l2.1 in grind (arith, nat_tests) in
     let d = drop_at steps k h.step l2.0 in
@@ -160,15 +157,15 @@ covers_whole : (line : Line) (long : ℕ) (st : DirSeg) (path : Path) (from : �
 covers_whole line long st path from fits h =
     let len = seg_len line in
     let steps = path.steps.items in
-    let a = both (alone_on st steps) (nat_eq path.from 0 && (nat_eq path.to (len st.seg.0) && nat_le long (len st.seg.0))) h in
-    let b = both (nat_eq path.from 0) (nat_eq path.to (len st.seg.0) && nat_le long (len st.seg.0)) a.1 in
-    let c = both (nat_eq path.to (len st.seg.0)) (nat_le long (len st.seg.0)) b.1 in
+    let a = and_parts (alone_on st steps) (nat_eq path.from 0 && (nat_eq path.to (len st.seg.0) && nat_le long (len st.seg.0))) h in
+    let b = and_parts (nat_eq path.from 0) (nat_eq path.to (len st.seg.0) && nat_le long (len st.seg.0)) a.1 in
+    let c = and_parts (nat_eq path.to (len st.seg.0)) (nat_le long (len st.seg.0)) b.1 in
     let e = ends_alone len st steps path.to a.0 in
     let to : path.to ≡ len st.seg.0 = let t = c.0 in grind (arith, nat_tests) in
     let fit : long ≤ len st.seg.0 = let t = c.1 in grind (arith, nat_tests) in
-    let k = both (nat_lt 0 (length steps)) (nat_le path.from (first_len len steps) && (nat_le path.to (len (last_step steps).seg.0) && nat_lt path.from (end_place len path))) fits in
-    let l = both (nat_le path.from (first_len len steps)) (nat_le path.to (len (last_step steps).seg.0) && nat_lt path.from (end_place len path)) k.1 in
-    let m = both (nat_le path.to (len (last_step steps).seg.0)) (nat_lt path.from (end_place len path)) l.1 in
+    let k = and_parts (nat_lt 0 (length steps)) (nat_le path.from (first_len len steps) && (nat_le path.to (len (last_step steps).seg.0) && nat_lt path.from (end_place len path))) fits in
+    let l = and_parts (nat_le path.from (first_len len steps)) (nat_le path.to (len (last_step steps).seg.0) && nat_lt path.from (end_place len path)) k.1 in
+    let m = and_parts (nat_le path.to (len (last_step steps).seg.0)) (nat_lt path.from (end_place len path)) l.1 in
     let some : path.from < end_place len path = let t = m.1 in grind (arith, nat_tests) in
     (long_declared line st (omega arith), omega arith, omega arith)
 
@@ -187,9 +184,9 @@ takes_first line long (Some st) path from number mark fits h = by_test (nat_eq n
 pub fits_range : (line : Line) (mark : ℕ) (path : Path) → auth_fits line mark path ≡ true → path_in_range (seg_len line) path ≡ true
 fits_range line mark path fits =
     let steps = path.steps.items in
-    let f = both (chained line steps) (no_segment_twice steps && (path_in_range (seg_len line) path && nat_lt (mark + length steps) 4294967296)) fits in
-    let f2 = both (no_segment_twice steps) (path_in_range (seg_len line) path && nat_lt (mark + length steps) 4294967296) f.1 in
-    (both (path_in_range (seg_len line) path) (nat_lt (mark + length steps) 4294967296) f2.1).0
+    let f = and_parts (chained line steps) (no_segment_twice steps && (path_in_range (seg_len line) path && nat_lt (mark + length steps) 4294967296)) fits in
+    let f2 = and_parts (no_segment_twice steps) (path_in_range (seg_len line) path && nat_lt (mark + length steps) 4294967296) f.1 in
+    (and_parts (path_in_range (seg_len line) path) (nat_lt (mark + length steps) 4294967296) f2.1).0
 
 takes_entry : (line : Line) (long : ℕ) (entry : Option DirSeg) (authority : Option EntryAuthority) (path : Path) (from number mark : ℕ) → path_in_range (seg_len line) path ≡ true
     → (is_some authority || (not (nat_eq number 1) || (nat_eq mark 0 && covers_portal (seg_len line) entry long path))) ≡ true → EntryIs line long entry authority
@@ -197,7 +194,7 @@ takes_entry : (line : Line) (long : ℕ) (entry : Option DirSeg) (authority : Op
 takes_entry line long entry None path from number mark fits h e = takes_first line long entry path from number mark fits h
 takes_entry line long entry (Some authority) path from number mark fits h e = e
 
--- an authority that is heeded
+-- an authority that is acted on
 
 takes_on : (line : Line) (from number mark : ℕ) (path : Path) (x : WorldTrain) (head : Option Head) → is_line line ≡ true → auth_fits line mark path ≡ true
     → heeded_by (seg_len line) x head number mark path ≡ true → EntryIs line x.train_length x.entry x.authority → 0 < x.train_length → HeadIs line x.room head → x.head ≡ head

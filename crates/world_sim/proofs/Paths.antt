@@ -1,10 +1,10 @@
 -- An authority that makes no way is none on the line.
 use Rattle.std.proofs.Common.{◌≡◌, ℕ, ◌+◌, false, List, take, drop, refl, Err}
 use Rattle.std.proofs.lemmas.List.{take-append-drop}
+use Rattle.list_laws.proofs.Tests.{by_test}
 use Rattle.track_points.specs.declared.ids.DirSeg.{DirSeg}
 use Rattle.track_points.specs.declared.path.Path.{Path}
 use Rattle.track_points.specs.Points.{no_segment_twice}
-use Rattle.track_points.proofs.Some.{by_test}
 use Rattle.definitions.specs.Track.{Line}
 use Rattle.definitions.specs.Ways.{chained}
 use Rattle.way_laws.proofs.Joined.{chained_front, once_front}

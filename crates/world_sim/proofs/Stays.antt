@@ -1,27 +1,26 @@
 -- The world's trains stay on its line.
-use Rattle.std.proofs.Common.{◌≡◌, ℕ, ◌≤◌, ◌+◌, ◌-◌, Bool, true, false, ◌&&◌, not, List, [], ◌∷◌, length, take, drop, get_or, refl, sym, ap, subst, ◌∙◌, arith, nat_eq, nat_le, nat_lt, Option, Some, None, if◌then◌else◌}
+use Rattle.std.proofs.Common.{◌≡◌, ℕ, ◌≤◌, ◌-◌, true, not, List, [], ◌∷◌, length, take, drop, get_or, refl, sym, ap, arith, nat_le, nat_lt, Option, Some, None}
 use Rattle.std.specs.Prelude.{is_some}
 use Rattle.std.specs.List.{list_all}
 use Rattle.std.proofs.lemmas.Bool.Decides.{nat_tests}
 use Rattle.std.proofs.lemmas.List.{take_all}
+use Rattle.std.proofs.lemmas.Bool.{and_parts}
+use Rattle.list_laws.proofs.Tests.{by_test}
 use Rattle.track_points.specs.declared.ids.TrainId.{TrainId}
 use Rattle.track_points.specs.declared.path.Path.{Path}
-use Rattle.track_points.proofs.Some.{by_test}
 use Rattle.definitions.specs.declared.event.Event.{Event}
-use Rattle.definitions.specs.declared.event.Event.TheVariants.{Train, Entry, Enter, Ask, Step, Report, Time, Take, Deliver}
+use Rattle.definitions.specs.declared.event.Event.TheVariants.{Train, Entry, Enter, Step}
 use Rattle.definitions.specs.declared.message.Msg.{Msg}
 use Rattle.definitions.specs.declared.message.Msg.TheVariants as msg
 use Rattle.definitions.specs.Track.{Line, seg_len}
 use Rattle.definitions.specs.Rules.{is_line}
 use Rattle.definitions.specs.Premises.{ascending}
-use Rattle.plain_state.specs.declared.Head.{Head}
 use Rattle.plain_state.specs.declared.EntryAuthority.{EntryAuthority}
 use Rattle.plain_state.specs.declared.WorldTrain.{WorldTrain}
-use Rattle.plain_state.specs.World.{PlainWorld, find_train, change_train, authority_found, kept_sender, on_found, head_found, room_found, new_train, asked_at_portal, come_on, moved_train, trains_moved, took_auth, auth_fits, heeded_by, train_heeds, world_heeds, world_take_next, world_event_next}
+use Rattle.plain_state.specs.World.{PlainWorld, find_train, change_train, authority_found, kept_sender, on_found, room_found, new_train, asked_at_portal, come_on, moved_train, trains_moved, took_auth, auth_fits, train_heeds, world_heeds, world_take_next, world_event_next}
 use Rattle.plain_state.specs.Plain.{world_start}
 use Rattle.plain_state.specs.Admits.{world_reports, world_moves, world_stops, world_enters, world_premise, may_move_found}
-use Rattle.way_laws.proofs.Lines.{both}
-use Rattle.world_sim.specs.World.{put, ascends, IsTrainOn, AllOn, IsWorldOn, IsBuilt, Took}
+use Rattle.world_sim.specs.World.{put, ascends, AllOn, IsWorldOn, IsBuilt, Took}
 use Rattle.world_sim.proofs.Listed.{replaced, more_on, changed_on, may_still, ascends_from}
 use Rattle.world_sim.proofs.OnTrack.{declares, asks, comes_on, moves_on, takes}
 
@@ -54,7 +53,7 @@ move_stays line t mm trains valid on room each = changed_on line t (moved_train 
 pub moved_stays : (line : Line) (x : TrainId × ℕ) (trains : List WorldTrain) → is_line line ≡ true → may_move_found trains x ≡ true → AllOn line trains
     → AllOn line (change_train x.0.0 (moved_train line x.1) trains)
 moved_stays line x trains valid may each =
-    let k = both (on_found (find_train x.0.0 trains)) (nat_le x.1 (room_found (find_train x.0.0 trains))) may in
+    let k = and_parts (on_found (find_train x.0.0 trains)) (nat_le x.1 (room_found (find_train x.0.0 trains))) may in
     move_stays line x.0.0 x.1 trains valid k.0 (let t = k.1 in grind (arith, nat_tests)) each
 
 moves_stay : (line : Line) (t : ℕ) (moves : List (TrainId × ℕ)) (trains : List WorldTrain) → is_line line ≡ true → ascending t moves ≡ true
@@ -62,8 +61,8 @@ moves_stay : (line : Line) (t : ℕ) (moves : List (TrainId × ℕ)) (trains : L
 unfolding trains_moved ascending
 moves_stay line t [] trains valid a may each = each
 moves_stay line t (x ∷ moves) trains valid a may each =
-    let k = both (may_move_found trains x) (list_all (may_move_found trains) moves) may in
-    let b = (both (nat_lt t x.0.0) (ascending x.0.0 moves) a).1 in
+    let k = and_parts (may_move_found trains x) (list_all (may_move_found trains) moves) may in
+    let b = (and_parts (nat_lt t x.0.0) (ascending x.0.0 moves) a).1 in
     moves_stay line x.0.0 moves (change_train x.0.0 (moved_train line x.1) trains) valid b
     (may_still line x moves x.0.0 trains (omega arith) b k.1)
     (moved_stays line x trains valid k.0 each)
@@ -83,7 +82,7 @@ event_stays line w (Train t long error speed kind) on built h =
 event_stays line w (Entry t step) on built h =
     record { valid = on.valid; each = changed_on line t.0 (asked_at_portal step) w.trains on.each (λ x found here. asks line step x here) }
 event_stays line w (Enter t) on built h =
-    let k = both (is_some (authority_found (find_train t.0 w.trains))) (not (on_found (find_train t.0 w.trains))) (enters w (Enter t) h) in
+    let k = and_parts (is_some (authority_found (find_train t.0 w.trains))) (not (on_found (find_train t.0 w.trains))) (enters w (Enter t) h) in
     record { valid = on.valid; each = enter_stays line t.0 w.trains k.0 on.each }
 event_stays line w (Step ms moves) on built h =
     record { valid = on.valid; each = moves_stay line 0 moves.items w.trains on.valid built (stops w (Step ms moves) h) on.each }
@@ -97,7 +96,7 @@ auth_stays line trains from t number mark path valid fits heeds each = changed_o
 pub take_stays : (line : Line) (w : PlainWorld) (from : ℕ) (m : Msg) → IsWorldOn line w → IsWorldOn line (world_take_next line w from m)
 take_stays line w from (msg.Auth t number mark path) on = by_test (world_heeds line w.trains (msg.Auth t number mark path))
     (λ y.
-    let k = both (auth_fits line mark path) (train_heeds (seg_len line) (find_train t.0 w.trains) number mark path) y in
+    let k = and_parts (auth_fits line mark path) (train_heeds (seg_len line) (find_train t.0 w.trains) number mark path) y in
     rw y (record { valid = on.valid; each = auth_stays line w.trains from t.0 number mark path on.valid k.0 k.1 on.each }))
     (λ n. rw n on)
 take_stays line w from _ on = on
@@ -114,7 +113,7 @@ goes_by : (line : Line) (moves : List (TrainId × ℕ)) (d : TrainId × ℕ) (tr
     × (list_all (may_move_found (change_train (get_or moves 0 d).0.0 (moved_train line (get_or moves 0 d).1) trains)) (drop 1 moves) ≡ true)
 goes_by line [] d trains some valid each a may = absurd (omega arith)
 goes_by line (x ∷ moves) d trains some valid each a may =
-    let k = both (may_move_found trains x) (list_all (may_move_found trains) moves) may in
+    let k = and_parts (may_move_found trains x) (list_all (may_move_found trains) moves) may in
     (moved_stays line x trains valid k.0 each, ascends_from x.0.0 moves a, may_still line x moves x.0.0 trains (omega arith) a k.1)
 
 pub goes : (line : Line) (moves : List (TrainId × ℕ)) (d : TrainId × ℕ) (w v : PlainWorld)
@@ -127,7 +126,7 @@ goes line moves d w v h some valid each a may =
     let e : v.trains ≡ change_train (get_or moves 0 d).0.0 (moved_train line (get_or moves 0 d).1) w.trains = ap (λ (u : PlainWorld). u.trains) h in
     rw (e, rest_all moves) (valid, (k.0, (k.1, k.2)))
 
--- a train that heeds an authority, put in
+-- a train that acts on an authority, put in
 pub taken : (line : Line) (t : TrainId) (from number mark : ℕ) (path : Path) (x y : WorldTrain) (w v : PlainWorld)
     → v ≡ record { clock = w.clock; trains = change_train t.0 (put y) w.trains } → Some x ≡ find_train t.0 w.trains → auth_fits line mark path ≡ true
     → Took (seg_len line) from number mark path x.head x (Some y) → v ≡ world_take_next line w from (msg.Auth t number mark path)

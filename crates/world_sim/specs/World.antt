@@ -104,7 +104,7 @@ abbrev pub RoomIs : Lengths → ℕ → Path → Head → Option ℕ → Type 0
 RoomIs len mark path h (Some room) = (lies_on len mark path h ≡ true) × (room ≡ room_on len mark path h)
 RoomIs len mark path h None = lies_on len mark path h ≡ false
 
--- a train once it has taken an authority; none where it does not heed it
+-- a train once it has taken an authority; none where it does not act on it
 abbrev pub Took : Lengths → ℕ → ℕ → ℕ → Path → Option Head → WorldTrain → Option WorldTrain → Type 0
 Took len from number mark path head x (Some y) = (heeded_by len x head number mark path ≡ true) × (y ≡ took_by len from number mark path head x)
 Took len from number mark path head x None = heeded_by len x head number mark path ≡ false

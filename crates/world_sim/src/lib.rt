@@ -1,4 +1,4 @@
-//! The world: its clock, its trains and how they move, what each of its steps gives, and which authorities it heeds.
+//! The world: its clock, its trains and how they move, what each of its steps gives, and which authorities it acts on.
 #![tactic(auto)]
 
 mod trains;

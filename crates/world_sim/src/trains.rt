@@ -235,7 +235,7 @@ fn room_on(line: &Line, mark: u32, path: &Path, end: u32, head: Head) -> Option<
     }
 }
 
-/// A train on the line takes an authority; none where it does not heed it.
+/// A train on the line takes an authority; none where it does not act on it.
 fn took_on_line(
     line: &Line,
     train: WorldTrain,
@@ -280,7 +280,7 @@ fn took_before(
     }
 }
 
-/// The train once it has taken an authority that ends at this place of its path; none where it does not heed it.
+/// The train once it has taken an authority that ends at this place of its path; none where it does not act on it.
 pub fn took(
     line: &Line,
     train: WorldTrain,

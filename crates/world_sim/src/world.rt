@@ -353,7 +353,7 @@ impl World {
         );
     }
 
-    /// An authority that ends at this place of its path is taken, where the train heeds it.
+    /// An authority that ends at this place of its path is taken, where the train acts on it.
     #[tactic(auto, using(crate::proofs::Listed::none_found))]
     fn take_auth(
         &mut self,

@@ -1,16 +1,17 @@
 -- The walks find the first number that passes, from one on.
 use Rattle.std.proofs.Common.{◌≡◌, ℕ, suc, zero, ◌+◌, ◌-◌, ◌<◌, ◌≤◌, min, Bool, true, false, ◌&&◌, ◌||◌, List, [], ◌∷◌, refl, sym, arith, nat_eq, nat_lt, nat_le}
 use Rattle.std.proofs.lemmas.Bool.Decides.{nat_tests}
+use Rattle.list_laws.proofs.Tests.{by_test, same_bool}
 use Rattle.track_points.specs.declared.ids.Dir.{Dir}
 use Rattle.track_points.specs.declared.ids.Dir.TheVariants.{Up, Down}
 use Rattle.track_points.specs.declared.ids.DirSeg.{DirSeg}
 use Rattle.track_points.specs.Points.{Lengths, Layout, Point, Cell, mm_at, total, some_below, has_between, path_has, end_place}
-use Rattle.track_points.proofs.Some.{by_test, same_bool, some_at, some_found}
+use Rattle.track_points.proofs.Some.{some_at, some_found}
 use Rattle.definitions.specs.Track.{Line, seg_len, layout, zone_of}
 use Rattle.definitions.specs.Limit.{on_step, passes}
 use Rattle.plain_state.specs.declared.Controlled.{Controlled}
-use Rattle.plain_state.specs.Zone.{held_else_plain, barring_plain, way_on}
-use Rattle.zone_reach.specs.Held.{cells_on, first_in, near_step, near_steps, near_way, near_ways, near_on, first_held}
+use Rattle.plain_state.specs.Zone.{held_else_plain, barring_plain, train_on}
+use Rattle.zone_reach.specs.Held.{cells_on, first_in, near_step, near_steps, near_train, near_trains, near_on, first_held}
 use Rattle.way_path.specs.Ways.{step_has}
 use Rattle.way_path.proofs.BySteps.{points_none, cells_first}
 use Rattle.way_laws.proofs.Throats.{cell_alone}
@@ -83,49 +84,49 @@ steps_are layout (w ∷ steps) lo hi st from =
     (λ k h. cells_first layout w steps lo hi st.seg.0 (mm_at (len st.seg.0) st.dir k))
     (nearest_two _ _ _ _ _ _ (step_is len w lo hi st from) (steps_are layout steps (lo - len w.seg.0) (hi - len w.seg.0) st from))
 
-pub way_is : (layout : Layout) (x : Controlled) (st : DirSeg) (from : ℕ)
-    → IsNearest (λ k. path_has layout x.way.path (cell_on layout.len st k)) (layout.len st.seg.0) from (near_way layout.len x st from)
-way_is layout x st from = steps_are layout x.way.path.steps.items x.way.path.from (end_place layout.len x.way.path) st from
+pub near_train_is : (layout : Layout) (x : Controlled) (st : DirSeg) (from : ℕ)
+    → IsNearest (λ k. path_has layout x.way.path (cell_on layout.len st k)) (layout.len st.seg.0) from (near_train layout.len x st from)
+near_train_is layout x st from = steps_are layout x.way.path.steps.items x.way.path.from (end_place layout.len x.way.path) st from
 
-ways_are : (layout : Layout) (t : ℕ) (ways : List Controlled) (st : DirSeg) (from : ℕ)
-    → IsNearest (λ k. held_else_plain layout ways t (cell_on layout.len st k)) (layout.len st.seg.0) from (near_ways layout.len t ways st from)
-unfolding near_ways
-ways_are layout t [] st from = nearest_none _ (layout.len st.seg.0) from (λ k h. refl)
-ways_are layout t (x ∷ ways) st from =
+near_trains_are : (layout : Layout) (t : ℕ) (trains : List Controlled) (st : DirSeg) (from : ℕ)
+    → IsNearest (λ k. held_else_plain layout trains t (cell_on layout.len st k)) (layout.len st.seg.0) from (near_trains layout.len t trains st from)
+unfolding near_trains
+near_trains_are layout t [] st from = nearest_none _ (layout.len st.seg.0) from (λ k h. refl)
+near_trains_are layout t (x ∷ trains) st from =
     by_test (nat_eq x.id.0 t)
-    (λ y. rw y (ways_are layout t ways st from))
-    (λ n. rw n (nearest_two _ _ _ _ _ _ (way_is layout x st from) (ways_are layout t ways st from)))
+    (λ y. rw y (near_trains_are layout t trains st from))
+    (λ n. rw n (nearest_two _ _ _ _ _ _ (near_train_is layout x st from) (near_trains_are layout t trains st from)))
 
-pub on_is : (line : Line) (z : ℕ) (ways : List Controlled) (t : ℕ) (st : DirSeg) (from : ℕ)
-    → IsNearest (λ k. barring_plain line z ways t (cell_on (seg_len line) st k)) (seg_len line st.seg.0) from (near_on line z ways t st from)
-on_is line z ways t st from =
+pub on_is : (line : Line) (z : ℕ) (trains : List Controlled) (t : ℕ) (st : DirSeg) (from : ℕ)
+    → IsNearest (λ k. barring_plain line z trains t (cell_on (seg_len line) st k)) (seg_len line st.seg.0) from (near_on line z trains t st from)
+on_is line z trains t st from =
     by_test (nat_eq (zone_of line st.seg.0) z)
-    (λ y. rw y (ways_are (layout line) t ways st from))
+    (λ y. rw y (near_trains_are (layout line) t trains st from))
     (λ n. rw n (nearest_none (λ k. false) (seg_len line st.seg.0) from (λ k h. refl)))
 
 -- the place is held
 abbrev pub held_at : Line → ℕ → List Controlled → ℕ → List DirSeg → ℕ → Bool
-held_at line z ways t asked p = passes (layout line) (barring_plain line z ways t) (on_step (seg_len line) asked p)
+held_at line z trains t asked p = passes (layout line) (barring_plain line z trains t) (on_step (seg_len line) asked p)
 
-held_here : (line : Line) (z : ℕ) (ways : List Controlled) (t : ℕ) (st : DirSeg) (asked : List DirSeg) (p : ℕ) → p < seg_len line st.seg.0
-    → held_at line z ways t (st ∷ asked) p ≡ barring_plain line z ways t (cell_on (seg_len line) st p)
+held_here : (line : Line) (z : ℕ) (trains : List Controlled) (t : ℕ) (st : DirSeg) (asked : List DirSeg) (p : ℕ) → p < seg_len line st.seg.0
+    → held_at line z trains t (st ∷ asked) p ≡ barring_plain line z trains t (cell_on (seg_len line) st p)
 unfolding on_step
-held_here line z ways t st asked p h =
+held_here line z trains t st asked p h =
     let y : nat_lt p (seg_len line st.seg.0) ≡ true = grind (arith, nat_tests) in
-    rw y (cell_alone line (barring_plain line z ways t) st.seg.0 (mm_at (seg_len line st.seg.0) st.dir p))
+    rw y (cell_alone line (barring_plain line z trains t) st.seg.0 (mm_at (seg_len line st.seg.0) st.dir p))
 
-held_beyond : (line : Line) (z : ℕ) (ways : List Controlled) (t : ℕ) (st : DirSeg) (asked : List DirSeg) (p : ℕ) → seg_len line st.seg.0 ≤ p
-    → held_at line z ways t (st ∷ asked) p ≡ held_at line z ways t asked (p - seg_len line st.seg.0)
+held_beyond : (line : Line) (z : ℕ) (trains : List Controlled) (t : ℕ) (st : DirSeg) (asked : List DirSeg) (p : ℕ) → seg_len line st.seg.0 ≤ p
+    → held_at line z trains t (st ∷ asked) p ≡ held_at line z trains t asked (p - seg_len line st.seg.0)
 unfolding on_step
-held_beyond line z ways t st asked p h = let n : nat_lt p (seg_len line st.seg.0) ≡ false = grind (arith, nat_tests) in rw n refl
+held_beyond line z trains t st asked p h = let n : nat_lt p (seg_len line st.seg.0) ≡ false = grind (arith, nat_tests) in rw n refl
 
 -- nothing is held behind the end of the steps
-pub held_behind : (line : Line) (z : ℕ) (ways : List Controlled) (t : ℕ) (asked : List DirSeg) (p : ℕ) → total (seg_len line) asked ≤ p → held_at line z ways t asked p ≡ false
+pub held_behind : (line : Line) (z : ℕ) (trains : List Controlled) (t : ℕ) (asked : List DirSeg) (p : ℕ) → total (seg_len line) asked ≤ p → held_at line z trains t asked p ≡ false
 unfolding on_step total
-held_behind line z ways t [] p h = refl
-held_behind line z ways t (st ∷ asked) p h =
+held_behind line z trains t [] p h = refl
+held_behind line z trains t (st ∷ asked) p h =
     let n : nat_lt p (seg_len line st.seg.0) ≡ false = grind (arith, nat_tests) in
-    rw n (held_behind line z ways t asked (p - seg_len line st.seg.0) (omega arith))
+    rw n (held_behind line z trains t asked (p - seg_len line st.seg.0) (omega arith))
 
 -- on a step it stops, or it goes on behind it
 module _ (here rest all : ℕ → Bool) (len n from q : ℕ) (h : (p : ℕ) → p < len → all p ≡ here p) (b : (p : ℕ) → len ≤ p → all p ≡ rest (p - len)) (i : IsNearest here len from q) where
@@ -147,18 +148,18 @@ module _ (here rest all : ℕ → Bool) (len n from q : ℕ) (h : (p : ℕ) → 
         (λ x. let le : len ≤ k = grind (arith, nat_tests) in rw (b k le) (j.before (k - len) (omega arith) (omega arith)));
   }
 
-pub first_held_is : (line : Line) (z : ℕ) (ways : List Controlled) (t : ℕ) (asked : List DirSeg) (from : ℕ)
-    → IsNearest (held_at line z ways t asked) (total (seg_len line) asked) from (first_held line z ways t asked from)
+pub first_held_is : (line : Line) (z : ℕ) (trains : List Controlled) (t : ℕ) (asked : List DirSeg) (from : ℕ)
+    → IsNearest (held_at line z trains t asked) (total (seg_len line) asked) from (first_held line z trains t asked from)
 unfolding first_held total
-first_held_is line z ways t [] from = record { within = omega arith; after = λ h. absurd (omega arith); there = λ h. absurd (omega arith); before = λ k f h. absurd (omega arith) }
-first_held_is line z ways t (st ∷ asked) from =
-    let i = on_is line z ways t st from in
-    by_test (nat_lt (near_on line z ways t st from) (seg_len line st.seg.0))
-    (λ y. rw y (stops_here _ (held_at line z ways t asked) (held_at line z ways t (st ∷ asked)) (seg_len line st.seg.0) (total (seg_len line) asked) from _
-    (λ p h. held_here line z ways t st asked p h) (λ p h. held_beyond line z ways t st asked p h) i (grind (arith, nat_tests))))
-    (λ x. rw x (goes_on _ (held_at line z ways t asked) (held_at line z ways t (st ∷ asked)) (seg_len line st.seg.0) (total (seg_len line) asked) from _
-    (λ p h. held_here line z ways t st asked p h) (λ p h. held_beyond line z ways t st asked p h) i (grind (arith, nat_tests))
-    (first_held line z ways t asked (from - seg_len line st.seg.0)) (first_held_is line z ways t asked (from - seg_len line st.seg.0))))
+first_held_is line z trains t [] from = record { within = omega arith; after = λ h. absurd (omega arith); there = λ h. absurd (omega arith); before = λ k f h. absurd (omega arith) }
+first_held_is line z trains t (st ∷ asked) from =
+    let i = on_is line z trains t st from in
+    by_test (nat_lt (near_on line z trains t st from) (seg_len line st.seg.0))
+    (λ y. rw y (stops_here _ (held_at line z trains t asked) (held_at line z trains t (st ∷ asked)) (seg_len line st.seg.0) (total (seg_len line) asked) from _
+    (λ p h. held_here line z trains t st asked p h) (λ p h. held_beyond line z trains t st asked p h) i (grind (arith, nat_tests))))
+    (λ x. rw x (goes_on _ (held_at line z trains t asked) (held_at line z trains t (st ∷ asked)) (seg_len line st.seg.0) (total (seg_len line) asked) from _
+    (λ p h. held_here line z trains t st asked p h) (λ p h. held_beyond line z trains t st asked p h) i (grind (arith, nat_tests))
+    (first_held line z trains t asked (from - seg_len line st.seg.0)) (first_held_is line z trains t asked (from - seg_len line st.seg.0))))
 
 -- whether some number passes, by the first one
 pub some_nearest : (test : ℕ → Bool) (n q : ℕ) → IsNearest test n 0 q → some_below test n ≡ nat_lt q n
@@ -174,14 +175,14 @@ none_below zero = refl
 none_below (suc n) = none_below n
 
 -- a way has a cell of the zone's own segment where the walk finds one
-pub way_on_own : (line : Line) (z s : ℕ) (x : Controlled) → zone_of line s ≡ z
-    → nat_lt (near_way (seg_len line) x (record { seg = record { 0 = s }; dir = Up }) 0) (seg_len line s) ≡ way_on line z s x
-way_on_own line z s x e =
+pub train_on_own : (line : Line) (z s : ℕ) (x : Controlled) → zone_of line s ≡ z
+    → nat_lt (near_train (seg_len line) x (record { seg = record { 0 = s }; dir = Up }) 0) (seg_len line s) ≡ train_on line z s x
+train_on_own line z s x e =
     let y : nat_eq (zone_of line s) z ≡ true = grind (arith, nat_tests) in
-    rw y (sym (some_nearest _ _ _ (way_is (layout line) x (record { seg = record { 0 = s }; dir = Up }) 0)))
+    rw y (sym (some_nearest _ _ _ (near_train_is (layout line) x (record { seg = record { 0 = s }; dir = Up }) 0)))
 
 -- and none of a segment of another zone's
-pub way_on_else : (line : Line) (z s : ℕ) (x : Controlled) → (zone_of line s ≡ z → ⊥) → nat_eq (zone_of line s) z ≡ way_on line z s x
-way_on_else line z s x e =
+pub train_on_else : (line : Line) (z s : ℕ) (x : Controlled) → (zone_of line s ≡ z → ⊥) → nat_eq (zone_of line s) z ≡ train_on line z s x
+train_on_else line z s x e =
     let n : nat_eq (zone_of line s) z ≡ false = grind (arith, nat_tests) in
     rw n (sym (none_below (seg_len line s)))

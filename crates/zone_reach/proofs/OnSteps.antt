@@ -18,7 +18,7 @@ use Rattle.way_path.proofs.OnSteps.{once_append}
 use Rattle.plain_state.specs.Zone.{longer_way}
 use Rattle.zone_reach.specs.Reach.{with_steps}
 
--- up to a place of the first steps, all steps come to the same
+-- up to a place of the first steps, all steps give the same
 pub steps_first : (len : Lengths) (asked : List DirSeg) (n p : ℕ) → p ≤ total len (take n asked) → 0 < n → steps_to len (take n asked) p ≡ steps_to len asked p
 steps_first len asked zero p h k = absurd (omega arith)
 steps_first len [] (suc n) p h k = refl

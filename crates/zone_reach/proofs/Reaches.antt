@@ -30,13 +30,13 @@ stop_within len asked limit to h s l =
     (λ b. let le : length asked ≤ 24 = grind (arith, nat_tests) in let e : take 24 asked ≡ asked = grind (arith, common_steps) in rw e refl)
     (λ a. let w = last_place len asked to s (grind (arith, nat_tests)) in omega arith)
 
-module _ (line : Line) (z : ℕ) (ways : List Controlled) (t : ℕ) (asked : List DirSeg) (limit to : ℕ) where
+module _ (line : Line) (z : ℕ) (trains : List Controlled) (t : ℕ) (asked : List DirSeg) (limit to : ℕ) where
   abbrev pub held_place : ℕ
-  held_place = first_held line z ways t asked limit
+  held_place = first_held line z trains t asked limit
 
   -- what is asked for
   abbrev pub ask_on : Ask
-  ask_on = record { way = asked; limit = limit; to = to; held = barring_plain line z ways t }
+  ask_on = record { way = asked; limit = limit; to = to; held = barring_plain line z trains t }
 
   abbrev pub stop_there : Stop
   stop_there = stop_on (seg_len line) asked limit to held_place
@@ -45,8 +45,8 @@ module _ (line : Line) (z : ℕ) (ways : List Controlled) (t : ℕ) (asked : Lis
   distance_is =
       first_only (λ d. obstructed (layout line) ask_on (limit + d)) (max limit (place_of_last (seg_len line) asked to) - limit) _ _
       (first_is (λ d. obstructed (layout line) ask_on (limit + d)) (max limit (place_of_last (seg_len line) asked to) - limit))
-      (stop_is (nat_lt (seg_len line (last_step asked).seg.0) to) (nat_lt 24 (length asked)) (held_at line z ways t asked) limit (max limit (place_of_last (seg_len line) asked to))
-      (total (seg_len line) asked) (total (seg_len line) (take 24 asked)) held_place (omega arith) (first_held_is line z ways t asked limit) (held_behind line z ways t asked))
+      (stop_is (nat_lt (seg_len line (last_step asked).seg.0) to) (nat_lt 24 (length asked)) (held_at line z trains t asked) limit (max limit (place_of_last (seg_len line) asked to))
+      (total (seg_len line) asked) (total (seg_len line) (take 24 asked)) held_place (omega arith) (first_held_is line z trains t asked limit) (held_behind line z trains t asked))
 
   obstacle_is : least_standing (layout line) ask_on (limit + distance_on (layout line) ask_on) ≡ stop_there.obstacle
   unfolding first_standing
@@ -54,8 +54,8 @@ module _ (line : Line) (z : ℕ) (ways : List Controlled) (t : ℕ) (asked : Lis
       let after = stop_after (seg_len line) asked limit to held_place in
       let d = distance_is in
       let e : limit + distance_on (layout line) ask_on ≡ stop_there.place = omega arith in
-      rw e (least_is (nat_lt (seg_len line (last_step asked).seg.0) to) (nat_lt 24 (length asked)) (held_at line z ways t asked) limit (max limit (place_of_last (seg_len line) asked to))
-      (total (seg_len line) asked) (total (seg_len line) (take 24 asked)) held_place (omega arith) (first_held_is line z ways t asked limit) (held_behind line z ways t asked))
+      rw e (least_is (nat_lt (seg_len line (last_step asked).seg.0) to) (nat_lt 24 (length asked)) (held_at line z trains t asked) limit (max limit (place_of_last (seg_len line) asked to))
+      (total (seg_len line) asked) (total (seg_len line) (take 24 asked)) held_place (omega arith) (first_held_is line z trains t asked limit) (held_behind line z trains t asked))
 
   pub reach_is : stop_reach limit stop_there ≡ reach_on (layout line) ask_on
   reach_is = let d = distance_is in let o = obstacle_is in cc

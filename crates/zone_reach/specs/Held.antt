@@ -31,22 +31,22 @@ unfoldable pub near_steps : Lengths → List DirSeg → ℕ → ℕ → DirSeg �
 near_steps len [] lo hi st from = len st.seg.0
 near_steps len (w ∷ steps) lo hi st from = min (near_step len w lo hi st from) (near_steps len steps (lo - len w.seg.0) (hi - len w.seg.0) st from)
 
-abbrev pub near_way : Lengths → Controlled → DirSeg → ℕ → ℕ
-near_way len x st from = near_steps len x.way.path.steps.items x.way.path.from (end_place len x.way.path) st from
+abbrev pub near_train : Lengths → Controlled → DirSeg → ℕ → ℕ
+near_train len x st from = near_steps len x.way.path.steps.items x.way.path.from (end_place len x.way.path) st from
 
 -- the same of the ways of the other trains
-unfoldable pub near_ways : Lengths → ℕ → List Controlled → DirSeg → ℕ → ℕ
-near_ways len t [] st from = len st.seg.0
-near_ways len t (x ∷ ways) st from = if nat_eq x.id.0 t then near_ways len t ways st from else min (near_way len x st from) (near_ways len t ways st from)
+unfoldable pub near_trains : Lengths → ℕ → List Controlled → DirSeg → ℕ → ℕ
+near_trains len t [] st from = len st.seg.0
+near_trains len t (x ∷ trains) st from = if nat_eq x.id.0 t then near_trains len t trains st from else min (near_train len x st from) (near_trains len t trains st from)
 
 -- the same of the zone's own cells
 abbrev pub near_on : Line → ℕ → List Controlled → ℕ → DirSeg → ℕ → ℕ
-near_on line z ways t st from = if nat_eq (zone_of line st.seg.0) z then near_ways (seg_len line) t ways st from else seg_len line st.seg.0
+near_on line z trains t st from = if nat_eq (zone_of line st.seg.0) z then near_trains (seg_len line) t trains st from else seg_len line st.seg.0
 
 -- the first place of some steps, from one on, that is held for another train; their end where there is none
 unfoldable pub first_held : Line → ℕ → List Controlled → ℕ → List DirSeg → ℕ → ℕ
-first_held line z ways t [] from = 0
-first_held line z ways t (st ∷ asked) from =
-    if nat_lt (near_on line z ways t st from) (seg_len line st.seg.0)
-    then near_on line z ways t st from
-    else seg_len line st.seg.0 + first_held line z ways t asked (from - seg_len line st.seg.0)
+first_held line z trains t [] from = 0
+first_held line z trains t (st ∷ asked) from =
+    if nat_lt (near_on line z trains t st from) (seg_len line st.seg.0)
+    then near_on line z trains t st from
+    else seg_len line st.seg.0 + first_held line z trains t asked (from - seg_len line st.seg.0)

@@ -2,8 +2,8 @@
 ghost use Rattle.std.specs.Prelude.{◌≡◌, ◌≤◌, ◌*◌, length, min};
 ghost use Rattle.definitions.specs.Track.{seg_len};
 ghost use Rattle.definitions.specs.Authority.{less_of};
-ghost use Rattle.plain_state.specs.Zone.{way_on, holder_plain};
-ghost use Rattle.zone_reach.specs.Held.{cells_on, first_from, first_in, near_step, near_steps, near_way, near_ways, near_on, first_held};
+ghost use Rattle.plain_state.specs.Zone.{train_on, holder_plain};
+ghost use Rattle.zone_reach.specs.Held.{cells_on, first_from, first_in, near_step, near_steps, near_train, near_trains, near_on, first_held};
 
 use crate::steps::place_of_last;
 use line_map::Line;
@@ -91,8 +91,8 @@ fn near_steps(line: &Line, steps: &[DirSeg], lo: u64, hi: u64, step: DirSeg, fro
 }
 
 /// The first offset of a step, from one on, whose cell lies in a way.
-fn near_way(line: &Line, other: &Controlled, step: DirSeg, from: u64) -> u64
-    ensures { result ≡ near_way (seg_len line.now) other.now step from }
+fn near_train(line: &Line, other: &Controlled, step: DirSeg, from: u64) -> u64
+    ensures { result ≡ near_train (seg_len line.now) other.now step from }
 {
     let path = other.way.path();
     let steps = path.steps.as_slice();
@@ -102,31 +102,31 @@ fn near_way(line: &Line, other: &Controlled, step: DirSeg, from: u64) -> u64
 
 /// The nearer of this offset and the first one whose cell lies in a way. A way that does not visit the segment is passed
 /// over.
-#[tactic(auto, using(crate::proofs::Away::way_away))]
-fn or_near_way(line: &Line, other: &Controlled, step: DirSeg, from: u64, nearest: u64) -> u64
+#[tactic(auto, using(crate::proofs::Away::train_away))]
+fn or_near_train(line: &Line, other: &Controlled, step: DirSeg, from: u64, nearest: u64) -> u64
     requires { nearest ≤ seg_len line.now step.seg.0 }
-    ensures { result ≡ min (near_way (seg_len line.now) other.now step from) nearest }
+    ensures { result ≡ min (near_train (seg_len line.now) other.now step from) nearest }
 {
     if visits(other.way.path().steps.as_slice(), step.seg) {
-        near_way(line, other, step, from).min(nearest)
+        near_train(line, other, step, from).min(nearest)
     } else {
         nearest
     }
 }
 
 /// The first offset of a step, from one on, whose cell lies in the way of another train than this one.
-#[tactic(auto, using(crate::proofs::Away::ways_within), unfolding(crate::specs::Held::near_ways))]
-fn near_ways(line: &Line, trains: &[Controlled], train: TrainId, step: DirSeg, from: u64) -> u64
-    ensures { result ≡ near_ways (seg_len line.now) train.0 trains.now step from }
+#[tactic(auto, using(crate::proofs::Away::trains_within), unfolding(crate::specs::Held::near_trains))]
+fn near_trains(line: &Line, trains: &[Controlled], train: TrainId, step: DirSeg, from: u64) -> u64
+    ensures { result ≡ near_trains (seg_len line.now) train.0 trains.now step from }
 {
     match trains {
         [] => length_of(line, step.seg) as u64,
         [other, rest @ ..] => {
-            let others = near_ways(line, rest, train, step, from);
+            let others = near_trains(line, rest, train, step, from);
             if other.id.0 == train.0 {
                 others
             } else {
-                or_near_way(line, other, step, from, others)
+                or_near_train(line, other, step, from, others)
             }
         }
     }
@@ -144,7 +144,7 @@ fn near_on(
     ensures { result ≡ near_on line.now zone trains.now train.0 step from }
 {
     if zone_of(line, step.seg) == zone {
-        near_ways(line, trains, train, step, from)
+        near_trains(line, trains, train, step, from)
     } else {
         length_of(line, step.seg) as u64
     }
@@ -181,19 +181,19 @@ pub fn first_held(
 
 /// Whether a way that visits a segment has a cell of it, which is of the zone's own.
 fn visited_on(line: &Line, zone: u8, other: &Controlled, s: SegId) -> bool
-    ensures { result ≡ way_on line.now zone s.0 other.now }
+    ensures { result ≡ train_on line.now zone s.0 other.now }
 {
     let step = DirSeg {
         seg: s,
         dir: Dir::Up,
     };
-    zone_of(line, s) == zone && near_way(line, other, step, 0) < length_of(line, s) as u64
+    zone_of(line, s) == zone && near_train(line, other, step, 0) < length_of(line, s) as u64
 }
 
 /// Whether a way has a cell of a segment of the zone's own.
 #[tactic(auto, using(crate::proofs::Away::on_away))]
-fn way_on(line: &Line, zone: u8, other: &Controlled, s: SegId) -> bool
-    ensures { result ≡ way_on line.now zone s.0 other.now }
+fn train_on(line: &Line, zone: u8, other: &Controlled, s: SegId) -> bool
+    ensures { result ≡ train_on line.now zone s.0 other.now }
 {
     if visits(other.way.path().steps.as_slice(), s) {
         visited_on(line, zone, other, s)
@@ -212,7 +212,7 @@ fn lesser(one: u16, other: Option<u16>) -> u16
 }
 
 /// The least train for which a cell of a segment of the zone's own is held.
-#[tactic(auto, unfolding(plain_state::specs::Zone::least_way))]
+#[tactic(auto, unfolding(plain_state::specs::Zone::least_train))]
 pub fn holder(line: &Line, zone: u8, trains: &[Controlled], s: SegId) -> Option<u16>
     ensures { result ≡ holder_plain line.now zone trains.now s.0 }
 {
@@ -220,7 +220,7 @@ pub fn holder(line: &Line, zone: u8, trains: &[Controlled], s: SegId) -> Option<
         [] => None,
         [other, rest @ ..] => {
             let others = holder(line, zone, rest, s);
-            if way_on(line, zone, other, s) {
+            if train_on(line, zone, other, s) {
                 Some(lesser(other.id.0, others))
             } else {
                 others

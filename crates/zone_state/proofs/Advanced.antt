@@ -1,9 +1,9 @@
--- What one message comes to.
-use Rattle.std.proofs.Common.{◌≡◌, ℕ, suc, ◌≤◌, Bool, true, false, List, [], ◌∷◌, ◌++◌, length, map, Option, Some, None, is_some, refl, ap, ◌∙◌, arith, nat_eq, nat_lt}
-use Rattle.track_points.proofs.Some.{by_test}
+-- What one message gives.
+use Rattle.std.proofs.Common.{◌≡◌, ℕ, ◌≤◌, Bool, true, false, List, ◌++◌, length, Option, Some, None, is_some, refl, ◌∙◌, arith, nat_eq, nat_lt}
 use Rattle.track_points.specs.declared.ids.DirSeg.{DirSeg}
 use Rattle.track_points.specs.declared.ids.TrainId.{TrainId}
 use Rattle.std.specs.Prelude.{ℤ}
+use Rattle.list_laws.proofs.Tests.{by_test}
 use Rattle.track_points.specs.Points.{Lengths}
 use Rattle.definitions.specs.declared.message.Msg.{Msg}
 use Rattle.definitions.specs.declared.message.Msg.TheVariants as msg
@@ -12,12 +12,12 @@ use Rattle.definitions.specs.Ways.{PlainWay}
 use Rattle.definitions.specs.Limit.{Reach}
 use Rattle.definitions.specs.Steps.{Effect, zone_entry, zone_ask, enter_or_held}
 use Rattle.plain_state.specs.declared.Controlled.{Controlled}
-use Rattle.plain_state.specs.Relation.{Distinct}
-use Rattle.plain_state.specs.Zone.{PlainZone, find_way, full, holder_plain, reach_plain, last_found, way_found, uses_mark, place_found, again_found, zone_answer, zone_heeds, zone_gives, zone_take_effect, trains_stepped, clock_after}
+use Rattle.plain_state.specs.Refinement.{Distinct}
+use Rattle.plain_state.specs.Zone.{PlainZone, find_controlled, full, holder_plain, reach_plain, last_found, way_found, uses_mark, place_found, again_found, zone_answer, zone_heeds, zone_gives, zone_take_effect, trains_stepped, clock_after}
 use Rattle.zone_state.specs.Zone.{alarms_of}
 use Rattle.zone_state.proofs.Alarms.{Follows, grown_follows, after_follows}
 
--- what a message comes to has at most one line
+-- what a message gives has at most one line
 abbrev pub AtMostOne : Effect → Type 0
 AtMostOne x = length x.lines ≤ 1
 
@@ -43,17 +43,17 @@ again_one : (t : TrainId) (x : Option Controlled) → AtMostOne (again_found t x
 again_one t None = omega arith
 again_one t (Some x) = by_test (nat_lt x.answered x.last) (λ y. rw y (omega arith)) (λ n. rw n (omega arith))
 
-answer_one : (line : Line) (z clock : ℕ) (ways : List Controlled) (m : Msg) → AtMostOne (zone_answer line z clock ways m)
-answer_one line z clock ways (msg.EntryAsk t time long error speed equipped step) =
-    entry_one z (is_some (find_way t.0 ways)) (full ways) (seg_len line step.seg.0) t long step (holder_plain line z ways step.seg.0)
-answer_one line z clock ways (msg.Ask t time steps to) =
-    ask_one (seg_len line) z t (last_found (find_way t.0 ways)) (way_found (find_way t.0 ways)) steps.items (reach_plain line z clock ways t.0 steps.items to)
-answer_one line z clock ways (msg.Report t time mark offset integrity) =
-    by_test (uses_mark (find_way t.0 ways) mark)
-    (λ y. rw y (place_one (seg_len line) z time mark offset integrity (find_way t.0 ways)))
+answer_one : (line : Line) (z clock : ℕ) (trains : List Controlled) (m : Msg) → AtMostOne (zone_answer line z clock trains m)
+answer_one line z clock trains (msg.EntryAsk t time long error speed equipped step) =
+    entry_one z (is_some (find_controlled t.0 trains)) (full trains) (seg_len line step.seg.0) t long step (holder_plain line z trains step.seg.0)
+answer_one line z clock trains (msg.Ask t time steps to) =
+    ask_one (seg_len line) z t (last_found (find_controlled t.0 trains)) (way_found (find_controlled t.0 trains)) steps.items (reach_plain line z clock trains t.0 steps.items to)
+answer_one line z clock trains (msg.Report t time mark offset integrity) =
+    by_test (uses_mark (find_controlled t.0 trains) mark)
+    (λ y. rw y (place_one (seg_len line) z time mark offset integrity (find_controlled t.0 trains)))
     (λ n. rw n (omega arith))
-answer_one line z clock ways (msg.Time time t) = again_one t (find_way t.0 ways)
-answer_one line z clock ways _ = omega arith
+answer_one line z clock trains (msg.Time time t) = again_one t (find_controlled t.0 trains)
+answer_one line z clock trains _ = omega arith
 
 pub gives_one : (line : Line) (z : PlainZone) (from : ℕ) (m : Msg) → AtMostOne (zone_gives line z from m)
 gives_one line z from m =

@@ -1,9 +1,9 @@
--- The trains behind a message: none is there twice, and which of them fall silent.
+-- The trains after a message: none is there twice, and which of them fall silent.
 use Rattle.std.proofs.Common.{◌≡◌, ℕ, suc, ◌≤◌, ◌<◌, max, true, false, not, ◌&&◌, List, [], ◌∷◌, length, map, Option, Some, None, is_some, refl, sym, ap, ◌∙◌, arith, nat_eq, nat_lt}
 use Rattle.std.specs.Prelude.{⊤}
 use Rattle.std.specs.List.{list_all}
 use Rattle.std.proofs.lemmas.Bool.Decides.{nat_tests}
-use Rattle.track_points.proofs.Some.{by_test}
+use Rattle.list_laws.proofs.Tests.{by_test, none_of}
 use Rattle.track_points.specs.declared.ids.TrainId.{TrainId}
 use Rattle.definitions.specs.declared.message.Msg.{Msg}
 use Rattle.definitions.specs.declared.message.Msg.TheVariants as msg
@@ -12,109 +12,47 @@ use Rattle.definitions.specs.Track.{Line, seg_len, silent_after}
 use Rattle.definitions.specs.Fronts.{silent_by}
 use Rattle.definitions.specs.Control.{message_time}
 use Rattle.plain_state.specs.declared.Controlled.{Controlled}
-use Rattle.plain_state.specs.Zone.{find_way, change_way, placed_way, entered_or, entered_way, full, holder_plain, reach_plain, uses_mark, ways_after, grown_train, plain_alarms, is_alarmed, report_or, alarm_of, lengthened, answer, reported_by, fresh_train}
-use Rattle.plain_state.specs.Relation.{Distinct}
+use Rattle.plain_state.specs.Zone.{find_controlled, change_controlled, placed_train, entered_or, train_at_entry, full, holder_plain, reach_plain, uses_mark, trains_heeded, grown_train, plain_alarms, is_alarmed, report_or, alarm_of, lengthened, answer, reported_by, fresh_train}
+use Rattle.plain_state.specs.Refinement.{Distinct}
+use Rattle.plain_state.proofs.Trains.{distinct_change, distinct_mapped, distinct_placed}
 use Rattle.zone_state.specs.Zone.{falls_silent, alarms_of}
 
 no_some : (x : Controlled) → Some x ≡ None → ⊥
 no_some x h = cc
 
-none_is : (o : Option Controlled) → is_some o ≡ false → o ≡ None
-none_is None h = refl
-none_is (Some x) h = absurd (let z : true ≡ false = h in cc)
-
 -- a change that leaves each train its number
 abbrev pub KeepsId : (Controlled → Controlled) → Type 0
 KeepsId f = (x : Controlled) → (f x).id ≡ x.id
 
-find_rest : (u : ℕ) (x : Controlled) (xs : List Controlled) → find_way u (x ∷ xs) ≡ None → (nat_eq x.id.0 u ≡ false) × (find_way u xs ≡ None)
-unfolding find_way
-find_rest u x xs h =
-    by_test (nat_eq x.id.0 u)
-    (λ y. absurd (no_some x (rw y at h)))
-    (λ n. (n, rw n at h))
-
-find_none : (u : ℕ) (x : Controlled) (xs : List Controlled) → nat_eq x.id.0 u ≡ false → find_way u xs ≡ None → find_way u (x ∷ xs) ≡ None
-unfolding find_way
-find_none u x xs n h = rw n h
-
-find_changed : (t u : ℕ) (f : Controlled → Controlled) (xs : List Controlled) → KeepsId f → find_way u xs ≡ None → find_way u (change_way t f xs) ≡ None
-unfolding change_way
-find_changed t u f [] k h = h
-find_changed t u f (x ∷ xs) k h =
-    let r = find_rest u x xs h in
-    by_test (nat_eq x.id.0 t)
-    (λ y. rw y (find_none u (f x) xs (ap (λ (i : TrainId). nat_eq i.0 u) (k x) ∙ r.0) r.1))
-    (λ n. rw n (find_none u x (change_way t f xs) r.0 (find_changed t u f xs k r.1)))
-
-pub distinct_changed : (t : ℕ) (f : Controlled → Controlled) (xs : List Controlled) → KeepsId f → Distinct xs → Distinct (change_way t f xs)
-unfolding change_way Distinct
-distinct_changed t f [] k d = tt
-distinct_changed t f (x ∷ xs) k d =
-    by_test (nat_eq x.id.0 t)
-    (λ y. rw y (ap (λ (i : TrainId). find_way i.0 xs) (k x) ∙ d.0, d.1))
-    (λ n. rw n (find_changed t x.id.0 f xs k d.0, distinct_changed t f xs k d.1))
-
-find_mapped : (u : ℕ) (f : Controlled → Controlled) (xs : List Controlled) → KeepsId f → find_way u xs ≡ None → find_way u (map f xs) ≡ None
-find_mapped u f [] k h = h
-find_mapped u f (x ∷ xs) k h =
-    let r = find_rest u x xs h in
-    find_none u (f x) (map f xs) (ap (λ (i : TrainId). nat_eq i.0 u) (k x) ∙ r.0) (find_mapped u f xs k r.1)
-
-pub distinct_mapped : (f : Controlled → Controlled) (xs : List Controlled) → KeepsId f → Distinct xs → Distinct (map f xs)
-unfolding Distinct
-distinct_mapped f [] k d = tt
-distinct_mapped f (x ∷ xs) k d = (ap (λ (i : TrainId). find_way i.0 (map f xs)) (k x) ∙ find_mapped x.id.0 f xs k d.0, distinct_mapped f xs k d.1)
-
-find_placed : (u : ℕ) (x : Controlled) (xs : List Controlled) → nat_eq x.id.0 u ≡ false → find_way u xs ≡ None → find_way u (placed_way x xs) ≡ None
-unfolding placed_way
-find_placed u x [] n h = find_none u x [] n h
-find_placed u x (y ∷ ys) n h =
-    let r = find_rest u y ys h in
-    by_test (nat_lt x.id.0 y.id.0)
-    (λ a. rw a (find_none u x (y ∷ ys) n h))
-    (λ b. rw b (find_none u y (placed_way x ys) r.0 (find_placed u x ys n r.1)))
-
-pub distinct_placed : (x : Controlled) (xs : List Controlled) → find_way x.id.0 xs ≡ None → Distinct xs → Distinct (placed_way x xs)
-unfolding placed_way Distinct
-distinct_placed x [] h d = (h, tt)
-distinct_placed x (y ∷ ys) h d =
-    let r = find_rest x.id.0 y ys h in
-    let m = r.0 in
-    let n : nat_eq x.id.0 y.id.0 ≡ false = grind (arith, nat_tests) in
-    by_test (nat_lt x.id.0 y.id.0)
-    (λ a. rw a (h, d))
-    (λ b. rw b (find_placed y.id.0 x ys n d.0, distinct_placed x ys r.1 d.1))
-
 -- each of some trains is found by its number
 unfoldable pub AllFound : List Controlled → List Controlled → Type 0
 AllFound all [] = ⊤
-AllFound all (y ∷ ys) = (find_way y.id.0 all ≡ Some y) × AllFound all ys
+AllFound all (y ∷ ys) = (find_controlled y.id.0 all ≡ Some y) × AllFound all ys
 
-found_beyond : (x : Controlled) (all ys : List Controlled) → find_way x.id.0 all ≡ None → AllFound all ys → AllFound (x ∷ all) ys
-unfolding AllFound find_way
+found_beyond : (x : Controlled) (all ys : List Controlled) → find_controlled x.id.0 all ≡ None → AllFound all ys → AllFound (x ∷ all) ys
+unfolding AllFound find_controlled
 found_beyond x all [] h f = tt
 found_beyond x all (y ∷ ys) h f =
     by_test (nat_eq x.id.0 y.id.0)
-    (λ e. absurd (let s : x.id.0 ≡ y.id.0 = grind (arith, nat_tests) in no_some y (sym f.0 ∙ ap (λ n. find_way n all) (sym s) ∙ h)))
+    (λ e. absurd (let s : x.id.0 ≡ y.id.0 = grind (arith, nat_tests) in no_some y (sym f.0 ∙ ap (λ n. find_controlled n all) (sym s) ∙ h)))
     (λ n. (rw n f.0, found_beyond x all ys h f.1))
 
 pub all_found : (xs : List Controlled) → Distinct xs → AllFound xs xs
-unfolding Distinct AllFound find_way
+unfolding Distinct AllFound find_controlled
 all_found [] d = tt
 all_found (x ∷ xs) d =
     let e : nat_eq x.id.0 x.id.0 ≡ true = grind (arith, nat_tests) in
     (rw e refl, found_beyond x xs xs d.0 (all_found xs d.1))
 
-found_among : (all : List Controlled) (x : Controlled) (ys : List Controlled) → AllFound all (placed_way x ys) → AllFound all ys
-unfolding AllFound placed_way
+found_among : (all : List Controlled) (x : Controlled) (ys : List Controlled) → AllFound all (placed_train x ys) → AllFound all ys
+unfolding AllFound placed_train
 found_among all x [] f = tt
 found_among all x (y ∷ ys) f =
     by_test (nat_lt x.id.0 y.id.0)
     (λ a. (rw a at f).1)
     (λ b. let g = rw b at f in (g.0, found_among all x ys g.1))
 
--- the trains before and behind a message, one beside the other: whether each falls silent can be seen behind it
+-- the trains before and after a message, one beside the other: whether each falls silent can be seen behind it
 unfoldable pub Beside : Line → ℕ → ℕ → List Controlled → List Controlled → Type 0
 Beside line before clock [] [] = ⊤
 Beside line before clock (x ∷ xs) (y ∷ ys) =
@@ -122,10 +60,10 @@ Beside line before clock (x ∷ xs) (y ∷ ys) =
 Beside line before clock [] (y ∷ ys) = ⊥
 Beside line before clock (x ∷ xs) [] = ⊥
 
-alarmed_is : (line : Line) (before clock : ℕ) (all : List Controlled) (x y : Controlled) → x.id ≡ y.id → find_way y.id.0 all ≡ Some y
+alarmed_is : (line : Line) (before clock : ℕ) (all : List Controlled) (x y : Controlled) → x.id ≡ y.id → find_controlled y.id.0 all ≡ Some y
     → is_alarmed line before clock all x ≡ (not (silent_by line x.report before) && silent_by line y.report clock)
 alarmed_is line before clock all x y e f =
-    let r : report_or (find_way x.id.0 all) ≡ y.report = ap (λ (i : TrainId). report_or (find_way i.0 all)) e ∙ ap report_or f in
+    let r : report_or (find_controlled x.id.0 all) ≡ y.report = ap (λ (i : TrainId). report_or (find_controlled i.0 all)) e ∙ ap report_or f in
     rw r refl
 
 pub alarms_beside : (line : Line) (z before clock : ℕ) (all xs ys : List Controlled) → Beside line before clock xs ys → AllFound all ys
@@ -149,8 +87,8 @@ beside_grown line before clock (x ∷ xs) = (refl, refl, beside_grown line befor
 
 pub beside_changed : (line : Line) (before clock t : ℕ) (f : Controlled → Controlled) (xs : List Controlled) → KeepsId f
     → ((x : Controlled) → (not (silent_by line x.report before) && silent_by line (f x).report clock) ≡ falls_silent (silent_after line) before clock (f x))
-    → Beside line before clock xs (change_way t f (map (grown_train clock) xs))
-unfolding Beside change_way
+    → Beside line before clock xs (change_controlled t f (map (grown_train clock) xs))
+unfolding Beside change_controlled
 beside_changed line before clock t f [] k r = tt
 beside_changed line before clock t f (x ∷ xs) k r =
     by_test (nat_eq x.id.0 t)
@@ -164,8 +102,8 @@ reported_silent line before time report = grind (arith, nat_tests)
 
 -- a train that has just entered is not silent
 alarms_placed : (line : Line) (z before clock : ℕ) (x : Controlled) (ys : List Controlled) → falls_silent (silent_after line) before clock x ≡ false
-    → alarms_of (silent_after line) z before clock ys ≡ alarms_of (silent_after line) z before clock (placed_way x ys)
-unfolding placed_way
+    → alarms_of (silent_after line) z before clock ys ≡ alarms_of (silent_after line) z before clock (placed_train x ys)
+unfolding placed_train
 alarms_placed line z before clock x [] h = rw h refl
 alarms_placed line z before clock x (y ∷ ys) h =
     by_test (nat_lt x.id.0 y.id.0)
@@ -175,7 +113,7 @@ alarms_placed line z before clock x (y ∷ ys) h =
     (λ t. rw (b, t) (ap (λ (os : List Outcome). alarm_of z y ∷ os) i))
     (λ n. rw (b, n) i))
 
--- what a change of a train's own comes to
+-- what a change of a train's own does
 pub record Follows (line : Line) (z before clock : ℕ) (old new : List Controlled) : Type 0 where
   pub distinct : Distinct new
   pub alarms : plain_alarms line z before clock old new ≡ alarms_of (silent_after line) z before clock new
@@ -185,13 +123,13 @@ pub length_mapped : (f : Controlled → Controlled) (xs : List Controlled) → l
 length_mapped f [] = refl
 length_mapped f (x ∷ xs) = ap suc (length_mapped f xs)
 
-length_changed : (t : ℕ) (f : Controlled → Controlled) (xs : List Controlled) → length (change_way t f xs) ≡ length xs
-unfolding change_way
+length_changed : (t : ℕ) (f : Controlled → Controlled) (xs : List Controlled) → length (change_controlled t f xs) ≡ length xs
+unfolding change_controlled
 length_changed t f [] = refl
 length_changed t f (x ∷ xs) = by_test (nat_eq x.id.0 t) (λ y. rw y refl) (λ n. rw n (ap suc (length_changed t f xs)))
 
-length_placed : (x : Controlled) (xs : List Controlled) → length (placed_way x xs) ≡ suc (length xs)
-unfolding placed_way
+length_placed : (x : Controlled) (xs : List Controlled) → length (placed_train x xs) ≡ suc (length xs)
+unfolding placed_train
 length_placed x [] = refl
 length_placed x (y ∷ ys) = by_test (nat_lt x.id.0 y.id.0) (λ a. rw a refl) (λ b. rw b (ap suc (length_placed x ys)))
 
@@ -207,50 +145,50 @@ module _ (line : Line) (z before clock : ℕ) (old : List Controlled) (d : Disti
 
   changed_follows : (t : ℕ) (f : Controlled → Controlled) → KeepsId f
       → ((x : Controlled) → (not (silent_by line x.report before) && silent_by line (f x).report clock) ≡ falls_silent (silent_after line) before clock (f x))
-      → Follows line z before clock old (change_way t f (map (grown_train clock) old))
+      → Follows line z before clock old (change_controlled t f (map (grown_train clock) old))
   changed_follows t f k r =
-      let e = distinct_changed t f (map (grown_train clock) old) k grown_follows.distinct in
+      let e = distinct_change t f (map (grown_train clock) old) k grown_follows.distinct in
       record {
         distinct = e;
-        alarms = alarms_beside line z before clock _ old (change_way t f (map (grown_train clock) old)) (beside_changed line before clock t f old k r) (all_found _ e);
+        alarms = alarms_beside line z before clock _ old (change_controlled t f (map (grown_train clock) old)) (beside_changed line before clock t f old k r) (all_found _ e);
         few = let l = length_mapped (grown_train clock) old in let m = length_changed t f (map (grown_train clock) old) in omega arith;
       }
 
-  placed_follows : (x : Controlled) → find_way x.id.0 (map (grown_train clock) old) ≡ None → x.report ≡ clock → length old < 256
-      → Follows line z before clock old (placed_way x (map (grown_train clock) old))
+  placed_follows : (x : Controlled) → find_controlled x.id.0 (map (grown_train clock) old) ≡ None → x.report ≡ clock → length old < 256
+      → Follows line z before clock old (placed_train x (map (grown_train clock) old))
   placed_follows x h r l =
-      let ways = map (grown_train clock) old in
-      let e = distinct_placed x ways h grown_follows.distinct in
+      let trains = map (grown_train clock) old in
+      let e = distinct_placed x trains h grown_follows.distinct in
       let n : falls_silent (silent_after line) before clock x ≡ false = rw r (grind (arith, nat_tests)) in
       record {
         distinct = e;
-        alarms = alarms_beside line z before clock (placed_way x ways) old ways (beside_grown line before clock old) (found_among _ x ways (all_found _ e))
-            ∙ alarms_placed line z before clock x ways n;
-        few = let a = length_mapped (grown_train clock) old in let m = length_placed x ways in omega arith;
+        alarms = alarms_beside line z before clock (placed_train x trains) old trains (beside_grown line before clock old) (found_among _ x trains (all_found _ e))
+            ∙ alarms_placed line z before clock x trains n;
+        few = let a = length_mapped (grown_train clock) old in let m = length_placed x trains in omega arith;
       }
 
-  entered_follows : (holder : Option ℕ) (x : Controlled) → find_way x.id.0 (map (grown_train clock) old) ≡ None → x.report ≡ clock → length old < 256
+  entered_follows : (holder : Option ℕ) (x : Controlled) → find_controlled x.id.0 (map (grown_train clock) old) ≡ None → x.report ≡ clock → length old < 256
       → Follows line z before clock old (entered_or holder x (map (grown_train clock) old))
   entered_follows (Some u) x h r l = grown_follows
   entered_follows None x h r l = placed_follows x h r l
 
-  pub after_follows : (m : Msg) → clock ≡ max before (message_time m) → Follows line z before clock old (ways_after line z clock (map (grown_train clock) old) m)
+  pub after_follows : (m : Msg) → clock ≡ max before (message_time m) → Follows line z before clock old (trains_heeded line z clock (map (grown_train clock) old) m)
   after_follows (msg.EntryAsk t time long error speed equipped step) c =
-      let ways = map (grown_train clock) old in
-      by_test (is_some (find_way t.0 ways))
+      let trains = map (grown_train clock) old in
+      by_test (is_some (find_controlled t.0 trains))
       (λ y. rw y grown_follows)
-      (λ n. by_test (full ways)
+      (λ n. by_test (full trains)
       (λ y. rw (n, y) grown_follows)
       (λ k. by_test (nat_lt (seg_len line step.seg.0) long)
       (λ y. rw (n, k, y) grown_follows)
       (λ i. let a = length_mapped (grown_train clock) old in
-      rw (n, k, i) (entered_follows (holder_plain line z ways step.seg.0) (entered_way clock t (seg_len line step.seg.0) long error speed step) (none_is _ n) refl (grind (arith, nat_tests))))))
+      rw (n, k, i) (entered_follows (holder_plain line z trains step.seg.0) (train_at_entry clock t (seg_len line step.seg.0) long error speed step) (none_of _ n) refl (grind (arith, nat_tests))))))
   after_follows (msg.Ask t time steps to) c =
       by_test (nat_eq (reach_plain line z clock (map (grown_train clock) old) t.0 steps.items to).distance 0)
       (λ y. rw y grown_follows)
       (λ n. rw n (changed_follows t.0 (lengthened (seg_len line) steps.items (reach_plain line z clock (map (grown_train clock) old) t.0 steps.items to).distance) (λ x. refl) (λ x. refl)))
   after_follows (msg.Report t time mark offset integrity) c =
-      by_test (uses_mark (find_way t.0 (map (grown_train clock) old)) mark)
+      by_test (uses_mark (find_controlled t.0 (map (grown_train clock) old)) mark)
       (λ y. rw y (changed_follows t.0 (reported_by (seg_len line) time mark offset integrity) (λ x. refl) (λ x. rw c (reported_silent line before time x.report))))
       (λ n. rw n grown_follows)
   after_follows (msg.Answer t time number taken) c = changed_follows t.0 (answer (seg_len line) number taken) (λ x. refl) (λ x. refl)

@@ -6,9 +6,9 @@ use Rattle.std.specs.List.{list_all, position, position_or_len}
 use Rattle.std.proofs.lemmas.Bool.Decides.{nat_tests}
 use Rattle.std.proofs.lemmas.List.Quantifiers.{position-Some}
 use Rattle.std.proofs.lemmas.List.Sums.{fails_before_first}
+use Rattle.list_laws.proofs.Tests.{by_test}
 use Rattle.track_points.specs.declared.ids.DirSeg.{DirSeg}
 use Rattle.track_points.specs.Points.{Lengths, total, place_of_last, end_place, visits, no_segment_twice}
-use Rattle.track_points.proofs.Some.{by_test}
 use Rattle.definitions.specs.Track.{Line, seg_len, joined, last_step}
 use Rattle.definitions.specs.Steps.{entry_path}
 use Rattle.definitions.specs.Ways.{path_in_range}
@@ -17,13 +17,13 @@ use Rattle.way_path.specs.declared.way.WayFault.TheVariants.{NotJoined, Repeated
 use Rattle.way_path.specs.Ways.{PlacedWay, Makes}
 use Rattle.plain_state.specs.declared.Shrink.{Shrink}
 use Rattle.plain_state.specs.declared.Controlled.{Controlled}
-use Rattle.plain_state.specs.Zone.{find_way, change_way, answered_by, answer}
+use Rattle.plain_state.specs.Zone.{find_controlled, change_controlled, answered_by, answer}
 use Rattle.zone_reach.specs.Reach.{path_fits}
 use Rattle.zone_state.specs.Zone.{is_train, TrainFits, AllFit}
 
 found_at : (t : ℕ) (xs : List Controlled) (i : ℕ) (d : Controlled) → i < length xs → is_train t (get_or xs i d) ≡ true
-    → ((k : ℕ) → k < i → is_train t (get_or xs k d) ≡ false) → find_way t xs ≡ Some (get_or xs i d)
-unfolding find_way
+    → ((k : ℕ) → k < i → is_train t (get_or xs k d) ≡ false) → find_controlled t xs ≡ Some (get_or xs i d)
+unfolding find_controlled
 found_at t [] i d h p b = absurd (omega arith)
 found_at t (x ∷ xs) zero d h p b = rw p refl
 found_at t (x ∷ xs) (suc i) d h p b =
@@ -31,25 +31,25 @@ found_at t (x ∷ xs) (suc i) d h p b =
 
 changed_at : (t : ℕ) (f : Controlled → Controlled) (xs : List Controlled) (i : ℕ) (d y : Controlled) → i < length xs → is_train t (get_or xs i d) ≡ true
     → ((k : ℕ) → k < i → is_train t (get_or xs k d) ≡ false) → y ≡ f (get_or xs i d)
-    → change_way t f xs ≡ set xs i y
-unfolding change_way
+    → change_controlled t f xs ≡ set xs i y
+unfolding change_controlled
 changed_at t f [] i d y h p b e = absurd (omega arith)
 changed_at t f (x ∷ xs) zero d y h p b e = rw p (ap (λ (z : Controlled). z ∷ xs) (sym e))
 changed_at t f (x ∷ xs) (suc i) d y h p b e =
     let n : is_train t x ≡ false = b 0 (omega arith) in
     rw n (ap (λ (ys : List Controlled). x ∷ ys) (changed_at t f xs i d y (omega arith) p (λ k l. b (suc k) (omega arith)) e))
 
-pub found : (t : ℕ) (xs : List Controlled) (i : ℕ) (d : Controlled) → position (is_train t) xs ≡ Some i → find_way t xs ≡ Some (get_or xs i d)
+pub found : (t : ℕ) (xs : List Controlled) (i : ℕ) (d : Controlled) → position (is_train t) xs ≡ Some i → find_controlled t xs ≡ Some (get_or xs i d)
 found t xs i d h = let p = position-Some (is_train t) xs i d h in found_at t xs i d p.0 p.1 p.2
 
-pub found_is : (t : ℕ) (xs : List Controlled) (i : ℕ) (x : Controlled) → position (is_train t) xs ≡ Some i → x ≡ get_or xs i x → find_way t xs ≡ Some x
+pub found_is : (t : ℕ) (xs : List Controlled) (i : ℕ) (x : Controlled) → position (is_train t) xs ≡ Some i → x ≡ get_or xs i x → find_controlled t xs ≡ Some x
 found_is t xs i x h e = found t xs i x h ∙ ap (λ (y : Controlled). Some (y)) (sym e)
 
 pub changed : (t : ℕ) (f : Controlled → Controlled) (xs : List Controlled) (i : ℕ) (d y : Controlled) → position (is_train t) xs ≡ Some i → y ≡ f (get_or xs i d)
-    → change_way t f xs ≡ set xs i y
+    → change_controlled t f xs ≡ set xs i y
 changed t f xs i d y h e = let p = position-Some (is_train t) xs i d h in changed_at t f xs i d y p.0 p.1 p.2 e
 
-pub changed_is : (t : ℕ) (f : Controlled → Controlled) (xs : List Controlled) (i : ℕ) (x y : Controlled) → position (is_train t) xs ≡ Some i → x ≡ get_or xs i x → y ≡ f x → change_way t f xs ≡ set xs i y
+pub changed_is : (t : ℕ) (f : Controlled → Controlled) (xs : List Controlled) (i : ℕ) (x y : Controlled) → position (is_train t) xs ≡ Some i → x ≡ get_or xs i x → y ≡ f x → change_controlled t f xs ≡ set xs i y
 changed_is t f xs i x y h e g = changed t f xs i x y h (g ∙ ap f e)
 
 -- what is read twice at an index
@@ -67,30 +67,30 @@ none_at t xs h k d l =
     (λ y. let q = rw y at h in absurd (cc))
     (λ n. fails_before_first (is_train t) xs k d (grind (arith, nat_tests)))
 
-absent_at : (t : ℕ) (xs : List Controlled) → ((k : ℕ) (d : Controlled) → k < length xs → is_train t (get_or xs k d) ≡ false) → find_way t xs ≡ None
-unfolding find_way
+absent_at : (t : ℕ) (xs : List Controlled) → ((k : ℕ) (d : Controlled) → k < length xs → is_train t (get_or xs k d) ≡ false) → find_controlled t xs ≡ None
+unfolding find_controlled
 absent_at t [] h = refl
 absent_at t (x ∷ xs) h = let n : is_train t x ≡ false = h 0 x (omega arith) in rw n (absent_at t xs (λ k d l. h (suc k) d (omega arith)))
 
 kept_at : (t : ℕ) (f : Controlled → Controlled) (xs : List Controlled) → ((k : ℕ) (d : Controlled) → k < length xs → is_train t (get_or xs k d) ≡ false)
-    → change_way t f xs ≡ xs
-unfolding change_way
+    → change_controlled t f xs ≡ xs
+unfolding change_controlled
 kept_at t f [] h = refl
 kept_at t f (x ∷ xs) h =
     let n : is_train t x ≡ false = h 0 x (omega arith) in
     rw n (ap (λ (ys : List Controlled). x ∷ ys) (kept_at t f xs (λ k d l. h (suc k) d (omega arith))))
 
-pub absent : (t : ℕ) (xs : List Controlled) → position (is_train t) xs ≡ None → find_way t xs ≡ None
+pub absent : (t : ℕ) (xs : List Controlled) → position (is_train t) xs ≡ None → find_controlled t xs ≡ None
 absent t xs h = absent_at t xs (none_at t xs h)
 
-pub kept : (t : ℕ) (f : Controlled → Controlled) (xs : List Controlled) → position (is_train t) xs ≡ None → change_way t f xs ≡ xs
+pub kept : (t : ℕ) (f : Controlled → Controlled) (xs : List Controlled) → position (is_train t) xs ≡ None → change_controlled t f xs ≡ xs
 kept t f xs h = kept_at t f xs (none_at t xs h)
 
-pub known : (t : ℕ) (xs : List Controlled) (i : ℕ) → position (is_train t) xs ≡ Some i → is_some (find_way t xs) ≡ true
+pub known : (t : ℕ) (xs : List Controlled) (i : ℕ) → position (is_train t) xs ≡ Some i → is_some (find_controlled t xs) ≡ true
 known t [] i h = absurd (cc)
 known t (x ∷ xs) i h = rw (found t (x ∷ xs) i x h) refl
 
-pub unknown : (t : ℕ) (xs : List Controlled) → position (is_train t) xs ≡ None → is_some (find_way t xs) ≡ false
+pub unknown : (t : ℕ) (xs : List Controlled) → position (is_train t) xs ≡ None → is_some (find_controlled t xs) ≡ false
 unknown t xs h = rw (absent t xs h) refl
 
 -- what holds of all trains
@@ -119,8 +119,8 @@ one_answered len number taken x none = sym (ap by_shrink none ∙ ap (λ (p : Op
     by_shrink p = answer len number taken (record x { pending = p })
 
 pub answered_is : (line : Line) (clock : ℕ) (len : Lengths) (number : ℕ) (taken : Bool) (t : ℕ) (xs : List Controlled) → AllFit line clock xs
-    → change_way t (answered_by number) xs ≡ change_way t (answer len number taken) xs
-unfolding change_way AllFit
+    → change_controlled t (answered_by number) xs ≡ change_controlled t (answer len number taken) xs
+unfolding change_controlled AllFit
 answered_is line clock len number taken t [] f = refl
 answered_is line clock len number taken t (x ∷ xs) f = by_test (nat_eq x.id.0 t)
     (λ y. rw y (ap (λ (z : Controlled). z ∷ xs) (one_answered len number taken x f.0.unshrunk)))
@@ -140,7 +140,7 @@ fit_counted line clock number x f = record {
 }
 
 -- at its own time, and back
-pub fit_own : (line : Line) (clock : ℕ) (x : Controlled) → TrainFits line clock x → TrainFits line x.fronts.at x
+fit_own : (line : Line) (clock : ℕ) (x : Controlled) → TrainFits line clock x → TrainFits line x.fronts.at x
 fit_own line clock x f = subst (λ (n : ℕ). TrainFits line n x) (sym f.at) f
 
 pub fit_again : (line : Line) (clock : ℕ) (x y : Controlled) → TrainFits line clock x → TrainFits line x.fronts.at y → TrainFits line clock y
@@ -158,6 +158,10 @@ passes_is test xs i x l e h = ap test e ∙ passes test xs i x l h
 -- a train that fits, found
 pub fit_found : (line : Line) (clock : ℕ) (xs : List Controlled) (i : ℕ) (x : Controlled) → i < length xs → x ≡ get_or xs i x → AllFit line clock xs → TrainFits line clock x
 fit_found line clock xs i x l e f = rw e (fit_one line clock xs i x l f)
+
+-- at its own time
+pub fit_here : (line : Line) (clock : ℕ) (xs : List Controlled) (i : ℕ) (x : Controlled) → i < length xs → x ≡ get_or xs i x → AllFit line clock xs → TrainFits line x.fronts.at x
+fit_here line clock xs i x l e f = fit_own line clock x (fit_found line clock xs i x l e f)
 
 -- a train that fits has a path that fits
 pub fit_path : (line : Line) (clock : ℕ) (x : Controlled) → TrainFits line clock x → path_fits (seg_len line) x.way.path ≡ true

@@ -1,14 +1,14 @@
 -- A train put among others.
-use Rattle.std.proofs.Common.{◌≡◌, ℕ, suc, zero, List, [], ◌∷◌, refl, ap, arith, nat_lt}
+use Rattle.std.proofs.Common.{◌≡◌, ℕ, suc, zero, List, [], ◌∷◌, refl, ap, nat_lt}
 use Rattle.std.specs.List.{insert}
-use Rattle.track_points.proofs.Some.{by_test}
+use Rattle.list_laws.proofs.Tests.{by_test}
 use Rattle.definitions.specs.Track.{Line}
 use Rattle.plain_state.specs.declared.Controlled.{Controlled}
-use Rattle.plain_state.specs.Zone.{placed_way}
+use Rattle.plain_state.specs.Zone.{placed_train}
 use Rattle.zone_state.specs.Zone.{place_for, TrainFits, AllFit}
 
-pub placed_is : (x : Controlled) (xs : List Controlled) → insert xs (place_for x.id.0 xs) x ≡ placed_way x xs
-unfolding place_for placed_way
+pub placed_is : (x : Controlled) (xs : List Controlled) → insert xs (place_for x.id.0 xs) x ≡ placed_train x xs
+unfolding place_for placed_train
 placed_is x [] = refl
 placed_is x (y ∷ ys) =
     by_test (nat_lt x.id.0 y.id.0)

@@ -1,22 +1,20 @@
--- What a report comes to, by its train.
+-- What a report does, by its train.
 use Rattle.std.proofs.Common.{◌≡◌, ℕ, true, false, Option, Some, None, sym, ap, ◌∙◌}
 use Rattle.std.specs.Prelude.{ℤ}
+use Rattle.std.proofs.lemmas.Option.{same_Some}
+use Rattle.list_laws.proofs.Tests.{by_test}
 use Rattle.track_points.specs.Points.{Lengths}
-use Rattle.track_points.proofs.Some.{by_test}
 use Rattle.way_path.specs.Ways.{PlacedWay, plain_way, place_of}
 use Rattle.plain_state.specs.declared.Shrink.{Shrink}
 use Rattle.plain_state.specs.declared.Controlled.{Controlled}
 use Rattle.plain_state.specs.Zone.{has_mark, reported_place, check, number_passed, unpassed}
-
-some_same : (a b : ℤ) → Some a ≡ Some b → a ≡ b
-some_same a b h = cc
 
 -- a place on the way is there where the way has the step
 pub marked : (len : Lengths) (way : PlacedWay) (mark : ℕ) (offset place : ℤ) → place_of len way mark offset ≡ Some place
     → (has_mark (plain_way way) mark ≡ true) × (reported_place len (plain_way way) mark offset ≡ place)
 marked len way mark offset place h =
     by_test (has_mark (plain_way way) mark)
-    (λ y. (y, some_same (reported_place len (plain_way way) mark offset) place (rw y at h)))
+    (λ y. (y, same_Some (reported_place len (plain_way way) mark offset) place (rw y at h)))
     (λ n. absurd (let z : None ≡ Some place = rw n at h in cc))
 
 pub not_marked : (len : Lengths) (way : PlacedWay) (mark : ℕ) (offset : ℤ) → place_of len way mark offset ≡ None → has_mark (plain_way way) mark ≡ false

@@ -4,7 +4,7 @@ use Rattle.std.proofs.lemmas.Bool.Decides.{nat_tests}
 use Rattle.std.proofs.lemmas.Int.{ints}
 use Rattle.std.specs.Prelude.{ℤ, pos, ◌*◌, ◌<ℤ◌, nat_abs}
 use Rattle.std.specs.Int.Signed.{le_z, lt_z}
-use Rattle.track_points.proofs.Some.{by_test}
+use Rattle.list_laws.proofs.Tests.{by_test}
 use Rattle.envelope.specs.declared.fronts.Fronts.{Fronts}
 use Rattle.envelope.specs.Fronts.{farthest_move, is_front, grown, kept, IsHull}
 use Rattle.envelope.specs.Ends.{least_left, greatest_left, narrowed}

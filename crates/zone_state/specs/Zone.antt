@@ -15,7 +15,7 @@ use Rattle.definitions.specs.Steps.{Effect}
 use Rattle.way_path.specs.Ways.{IsWay, OnLine, EndsWithPath}
 use Rattle.plain_state.specs.declared.Controlled.{Controlled}
 use Rattle.plain_state.specs.Zone.{PlainZone, hold_has, envelope_has, alarm_of, grown_train}
-use Rattle.plain_state.specs.Relation.{Distinct}
+use Rattle.plain_state.specs.Refinement.{Distinct}
 use Rattle.zone_reach.specs.Reach.{ReachFits}
 
 -- what a zone keeps: its plain state, and beside each of its trains the points that are held for it
@@ -107,7 +107,7 @@ abbrev pub falls_silent : ℕ → ℕ → ℕ → Controlled → Bool
 falls_silent ms before clock x = not (nat_lt (x.report + ms) before) && nat_lt (x.report + ms) clock
 
 abbrev pub alarms_of : ℕ → ℕ → ℕ → ℕ → List Controlled → List Outcome
-alarms_of ms z before clock ways = map (alarm_of z) (filter (falls_silent ms before clock) ways)
+alarms_of ms z before clock trains = map (alarm_of z) (filter (falls_silent ms before clock) trains)
 
 -- the index at which a train goes in: before the first of a greater id
 unfoldable pub place_for : ℕ → List Controlled → ℕ

@@ -3,7 +3,7 @@ ghost use Rattle.std.specs.Prelude.{◌≡◌, ◌≤◌, ◌+◌, ◌∷◌, []
 ghost use Rattle.definitions.specs.Track.{seg_len};
 ghost use Rattle.definitions.specs.Steps.{nothing};
 ghost use Rattle.way_path.specs.Ways.{place_of};
-ghost use Rattle.plain_state.specs.Zone.{find_way, change_way, uses_mark, place_found, place_of_train, narrowed_train, reported_by, cut_at_rear};
+ghost use Rattle.plain_state.specs.Zone.{find_controlled, change_controlled, uses_mark, place_found, place_of_train, narrowed_train, reported_by, cut_at_rear};
 ghost use Rattle.zone_state.specs.Zone.{TrainFits, TrainStands, IsHold, ZoneFits};
 
 use crate::trains::{hold_of, train_index};
@@ -95,8 +95,8 @@ impl Zone {
         requires empty { outs.old ≡ nothing }
         requires earlier { report.time ≤ self.old.plain.clock }
         requires fits { ZoneFits line.now self.old }
-        ensures gives { outs.new ≡ (if uses_mark (find_way train.0 self.old.plain.trains) report.mark then place_found (seg_len line.now) self.old.plain.id report.time report.mark report.offset report.integrity (find_way train.0 self.old.plain.trains) else nothing) }
-        ensures next { self.new.plain ≡ record self.old.plain { trains = if uses_mark (find_way train.0 self.old.plain.trains) report.mark then change_way train.0 (reported_by (seg_len line.now) report.time report.mark report.offset report.integrity) self.old.plain.trains else self.old.plain.trains } }
+        ensures gives { outs.new ≡ (if uses_mark (find_controlled train.0 self.old.plain.trains) report.mark then place_found (seg_len line.now) self.old.plain.id report.time report.mark report.offset report.integrity (find_controlled train.0 self.old.plain.trains) else nothing) }
+        ensures next { self.new.plain ≡ record self.old.plain { trains = if uses_mark (find_controlled train.0 self.old.plain.trains) report.mark then change_controlled train.0 (reported_by (seg_len line.now) report.time report.mark report.offset report.integrity) self.old.plain.trains else self.old.plain.trains } }
         ensures fits { ZoneFits line.now self.new }
     {
         if let Some(i) = train_index(self.trains.as_slice(), train) {

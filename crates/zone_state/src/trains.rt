@@ -7,7 +7,7 @@ ghost use Rattle.definitions.specs.declared.item.Item.{Item};
 ghost use Rattle.definitions.specs.Track.{owner, seg_len, layout, has_segment};
 ghost use Rattle.definitions.specs.Steps.{nothing, zone_ask, zone_entry, deny, refuse, entry_path, enter_or_held};
 ghost use Rattle.way_path.specs.Ways.{IsWay, OnLine, EndsWithPath};
-ghost use Rattle.plain_state.specs.Zone.{find_way, change_way, answered_by, lengthened, last_found, path_found, way_found, again_found, placed_way, reach_plain, holder_plain, full, fresh_train, ways_asked, ways_entered, entered_way, entry_way};
+ghost use Rattle.plain_state.specs.Zone.{find_controlled, change_controlled, answered_by, lengthened, last_found, path_found, way_found, again_found, placed_train, reach_plain, holder_plain, full, fresh_train, trains_asked, trains_entered, train_at_entry, entry_way};
 ghost use Rattle.zone_reach.specs.Reach.{reach_value, ReachFits};
 ghost use Rattle.zone_state.specs.Zone.{TrainFits, AllFit, IsHold, ZoneFits, is_train, ReachFitsFound, path_granted, place_for};
 
@@ -151,7 +151,7 @@ fn train_at_entry(line: &Line, clock: u64, request: Request, room: u32) -> Contr
     requires room { room ≡ seg_len line.now request.step.seg.0 }
     requires long { request.train_length ≤ room }
     requires some { 1 ≤ request.train_length }
-    ensures next { result ≡ entered_way clock request.train room request.train_length request.error request.speed request.step }
+    ensures next { result ≡ train_at_entry clock request.train room request.train_length request.error request.speed request.step }
     ensures fits { TrainFits line.now clock result }
 {
     let long = request.train_length;
@@ -192,7 +192,7 @@ fn entered(zone: u8, train: TrainId, step: DirSeg, room: u32, outs: &mut Outs)
 
 /// Whether the zone controls the train.
 fn knows(trains: &[Controlled], train: TrainId) -> bool
-    ensures { result ≡ is_some (find_way train.0 trains.now) }
+    ensures { result ≡ is_some (find_controlled train.0 trains.now) }
 {
     match train_index(trains, train) {
         Some(_) => true,
@@ -229,7 +229,7 @@ fn place_for(trains: &[Controlled], train: TrainId) -> usize
 impl Zone {
     /// Counts an answer of a train, to a number that was issued and is above the greatest counted.
     pub(crate) fn answer(&mut self, train: TrainId, number: u32)
-        ensures next { self.new.plain ≡ record self.old.plain { trains = change_way train.0 (answered_by number) self.old.plain.trains } }
+        ensures next { self.new.plain ≡ record self.old.plain { trains = change_controlled train.0 (answered_by number) self.old.plain.trains } }
         ensures fits { (line : List Item) → ZoneFits line self.old → ZoneFits line self.new }
     {
         if let Some(i) = train_index(self.trains.as_slice(), train) {
@@ -242,7 +242,7 @@ impl Zone {
         requires few { length asked.now ≤ 24 }
         requires fits { AllFit line.now self.now.plain.clock self.now.plain.trains }
         ensures reach { reach_value result ≡ reach_plain line.now self.now.plain.id self.now.plain.clock self.now.plain.trains train.0 asked.now to }
-        ensures fits { ReachFitsFound line.now (path_found (find_way train.0 self.now.plain.trains)) asked.now result.distance }
+        ensures fits { ReachFitsFound line.now (path_found (find_controlled train.0 self.now.plain.trains)) asked.now result.distance }
     {
         let trains = self.trains.as_slice();
         match train_index(trains, train) {
@@ -270,8 +270,8 @@ impl Zone {
         requires empty { outs.old ≡ nothing }
         requires fits { ZoneFits line.now self.old }
         requires fresh { list_all fresh_train self.old.plain.trains ≡ true }
-        ensures gives { outs.new ≡ zone_ask (seg_len line.now) self.old.plain.id train (last_found (find_way train.0 self.old.plain.trains)) (way_found (find_way train.0 self.old.plain.trains)) asked.now (reach_plain line.now self.old.plain.id self.old.plain.clock self.old.plain.trains train.0 asked.now to) }
-        ensures next { self.new.plain ≡ record self.old.plain { trains = ways_asked (seg_len line.now) train.0 asked.now (reach_plain line.now self.old.plain.id self.old.plain.clock self.old.plain.trains train.0 asked.now to) self.old.plain.trains } }
+        ensures gives { outs.new ≡ zone_ask (seg_len line.now) self.old.plain.id train (last_found (find_controlled train.0 self.old.plain.trains)) (way_found (find_controlled train.0 self.old.plain.trains)) asked.now (reach_plain line.now self.old.plain.id self.old.plain.clock self.old.plain.trains train.0 asked.now to) }
+        ensures next { self.new.plain ≡ record self.old.plain { trains = trains_asked (seg_len line.now) train.0 asked.now (reach_plain line.now self.old.plain.id self.old.plain.clock self.old.plain.trains train.0 asked.now to) self.old.plain.trains } }
         ensures fits { ZoneFits line.now self.new }
     {
         let reach = self.reach_of(line, train, asked, to);
@@ -288,7 +288,7 @@ impl Zone {
     /// Sends the last authority of a train again where its number is not answered.
     pub(crate) fn send_again(&self, train: TrainId, outs: &mut Outs)
         requires { outs.old ≡ nothing }
-        ensures { outs.new ≡ again_found train (find_way train.0 self.now.plain.trains) }
+        ensures { outs.new ≡ again_found train (find_controlled train.0 self.now.plain.trains) }
     {
         let trains = self.trains.as_slice();
         let Some(i) = train_index(trains, train) else {
@@ -311,7 +311,7 @@ impl Zone {
     /// Puts a train among those that the zone controls, which has room for it, and beside it what is held for it.
     fn put(&mut self, x: Controlled, hold: PointSet)
         requires few { length self.old.plain.trains < 256 }
-        ensures next { self.new.plain ≡ record self.old.plain { trains = placed_way x self.old.plain.trains } }
+        ensures next { self.new.plain ≡ record self.old.plain { trains = placed_train x self.old.plain.trains } }
         ensures fits { (line : List Item) → TrainFits line self.old.plain.clock x → IsHold line self.old.plain.id x hold → ZoneFits line self.old → ZoneFits line self.new }
     {
         let index = place_for(self.trains.as_slice(), x.id);
@@ -325,8 +325,8 @@ impl Zone {
         requires some { 1 ≤ request.train_length }
         requires empty { outs.old ≡ nothing }
         requires fits { ZoneFits line.now self.old }
-        ensures gives { outs.new ≡ zone_entry self.old.plain.id (is_some (find_way request.train.0 self.old.plain.trains)) (full self.old.plain.trains) (seg_len line.now request.step.seg.0) request.train request.train_length request.step (holder_plain line.now self.old.plain.id self.old.plain.trains request.step.seg.0) }
-        ensures next { self.new.plain ≡ record self.old.plain { trains = ways_entered self.old.plain.clock (is_some (find_way request.train.0 self.old.plain.trains)) (full self.old.plain.trains) (seg_len line.now request.step.seg.0) request.train request.train_length request.error request.speed request.step (holder_plain line.now self.old.plain.id self.old.plain.trains request.step.seg.0) self.old.plain.trains } }
+        ensures gives { outs.new ≡ zone_entry self.old.plain.id (is_some (find_controlled request.train.0 self.old.plain.trains)) (full self.old.plain.trains) (seg_len line.now request.step.seg.0) request.train request.train_length request.step (holder_plain line.now self.old.plain.id self.old.plain.trains request.step.seg.0) }
+        ensures next { self.new.plain ≡ record self.old.plain { trains = trains_entered self.old.plain.clock (is_some (find_controlled request.train.0 self.old.plain.trains)) (full self.old.plain.trains) (seg_len line.now request.step.seg.0) request.train request.train_length request.error request.speed request.step (holder_plain line.now self.old.plain.id self.old.plain.trains request.step.seg.0) self.old.plain.trains } }
         ensures fits { ZoneFits line.now self.new }
     {
         let train = request.train;

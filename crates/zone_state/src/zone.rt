@@ -7,7 +7,7 @@ ghost use Rattle.definitions.specs.Track.{layout};
 ghost use Rattle.definitions.specs.Control.{message_time};
 ghost use Rattle.definitions.specs.Steps.{nothing};
 ghost use Rattle.plain_state.specs.Plain.{zone_start};
-ghost use Rattle.plain_state.specs.Zone.{find_way, hold_has, zone_heeds, zone_answer, zone_gives, ways_after, enters_here, fresh_number, fresh_mark, fresh_train, fresh_message, zone_take_effect, zone_take_next};
+ghost use Rattle.plain_state.specs.Zone.{find_controlled, hold_has, zone_heeds, zone_answer, zone_gives, trains_heeded, enters_here, fresh_number, fresh_mark, fresh_train, fresh_message, zone_take_effect, zone_take_next};
 ghost use Rattle.zone_state.specs.Zone.{ZoneFits, IsZoneOn, IsEnvelope, InRange, entry_declared};
 
 use crate::clock::alarms;
@@ -137,7 +137,7 @@ impl Zone {
         self.clock
     }
 
-    /// Whether it heeds a message.
+    /// Whether it acts on a message.
     fn heeds(&self, line: &Line, message: &Msg, from: u8) -> bool
         ensures heeds { result ≡ zone_heeds line.now self.now.plain from message.now }
         ensures declared { result ≡ true → entry_declared line.now message.now ≡ true }
@@ -149,7 +149,7 @@ impl Zone {
             && all_fresh(self.trains.as_slice())
     }
 
-    /// A message acts, which the zone heeds.
+    /// A message acts, which the zone acts on.
     fn act(&mut self, line: &Line, message: &Msg, outs: &mut Outs)
         requires declared { entry_declared line.now message.now ≡ true }
         requires range { InRange message.now }
@@ -158,7 +158,7 @@ impl Zone {
         requires empty { outs.old ≡ nothing }
         requires fits { ZoneFits line.now self.old }
         ensures gives { outs.new ≡ zone_answer line.now self.old.plain.id self.old.plain.clock self.old.plain.trains message.now }
-        ensures next { self.new.plain ≡ record self.old.plain { trains = ways_after line.now self.old.plain.id self.old.plain.clock self.old.plain.trains message.now } }
+        ensures next { self.new.plain ≡ record self.old.plain { trains = trains_heeded line.now self.old.plain.id self.old.plain.clock self.old.plain.trains message.now } }
         ensures fits { ZoneFits line.now self.new }
     {
         match message {
@@ -206,7 +206,7 @@ impl Zone {
         }
     }
 
-    /// Now rises, and the fronts of all trains grow; then a message acts, where the zone heeds it.
+    /// Now rises, and the fronts of all trains grow; then a message acts, where the zone acts on it.
     fn take(&mut self, line: &Line, message: &Msg, from: u8, outs: &mut Outs)
         requires empty { outs.old ≡ nothing }
         requires fits { ZoneFits line.now self.old }
@@ -223,7 +223,7 @@ impl Zone {
     }
 
     /// The zone takes a message. It takes no memory. First Now rises, and the fronts of all trains grow; then the message
-    /// acts, where the zone heeds it; last come the alarms.
+    /// acts, where the zone acts on it; last come the alarms.
     pub fn step(&mut self, line: &Line, message: &Msg, from: u8, outs: &mut Outs)
         requires empty { outs.old ≡ nothing }
         requires fits { IsZoneOn line.now self.old }
@@ -246,7 +246,7 @@ impl Zone {
 
     /// The points that it holds for a train; none where it does not control the train.
     pub fn held(&self, train: TrainId) -> PointSet
-        ensures { (line : Line) → IsZoneOn line self.now → (point : Point) → set_has result point ≡ hold_has line self.now.plain.id (find_way train.0 self.now.plain.trains) point }
+        ensures { (line : Line) → IsZoneOn line self.now → (point : Point) → set_has result point ≡ hold_has line self.now.plain.id (find_controlled train.0 self.now.plain.trains) point }
     {
         match train_index(self.trains.as_slice(), train) {
             None => PointSet::empty(),
@@ -257,7 +257,7 @@ impl Zone {
     /// The points that a train may have: those of its way from its least rear to its greatest front.
     pub fn envelope(&self, line: &Line, train: TrainId) -> Option<PointSet>
         requires { IsZoneOn line.now self.now }
-        ensures { IsEnvelope (layout line.now) (find_way train.0 self.now.plain.trains) result }
+        ensures { IsEnvelope (layout line.now) (find_controlled train.0 self.now.plain.trains) result }
     {
         match train_index(self.trains.as_slice(), train) {
             None => None,

@@ -125,7 +125,7 @@ fn place(rear: u16, rear_offset: u32, front: u16, front_offset: u32) -> Option<O
     ))
 }
 
-/// A message and its sender, and what it comes to: Now, the last outcome line, and to whom an authority goes, its number, its
+/// A message and its sender, and what it gives: Now, the last outcome line, and to whom an authority goes, its number, its
 /// mark and the end of its path.
 #[derive(Drop)]
 struct Case {
@@ -225,7 +225,7 @@ fn in_range(message: &Msg) -> bool
     }
 }
 
-/// What a step comes to: Now, the last outcome line, and the authority that goes.
+/// What a step gives: Now, the last outcome line, and the authority that goes.
 type Taken = (u64, Option<Outcome>, Option<(u8, u32, u32, u32)>);
 
 /// The zone takes a message.

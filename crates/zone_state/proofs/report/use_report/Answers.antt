@@ -1,7 +1,6 @@
-use Rattle.std.proofs.Common.{◌≡◌, ◌∙◌, refl, rules, w64, subst, sym, ap}
+use Rattle.std.proofs.Common.{◌∙◌, rules, w64, subst, sym, ap}
 use Rattle.std.proofs.lemmas.Int.{to_z-of_z}
 use Rattle.definitions.specs.Track.{seg_len}
-use Rattle.plain_state.specs.declared.Controlled.{Controlled}
 use Rattle.plain_state.specs.Zone.{narrowed_train, cut_at_rear}
 use Rattle.zone_state.specs.Zone.{TrainFits}
 use Rattle.zone_state.proofs.Reported.{marked, unchecked}

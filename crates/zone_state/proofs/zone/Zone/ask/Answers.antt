@@ -1,12 +1,11 @@
-use Rattle.std.proofs.Common.{◌≡◌, ◌≤◌, true, false, refl, sym, ap, ◌∙◌, arith, nat_eq}
+use Rattle.std.proofs.Common.{◌≡◌, false, refl, sym, ap, ◌∙◌, arith, nat_eq}
 use Rattle.std.proofs.lemmas.Bool.Decides.{nat_tests}
 use Rattle.std.proofs.lemmas.List.{get_or-set_same}
 use Rattle.definitions.specs.Track.{seg_len}
 use Rattle.plain_state.specs.declared.Controlled.{Controlled}
-use Rattle.plain_state.specs.Zone.{find_way, fresh_train, lengthened, path_found}
-use Rattle.zone_reach.specs.Reach.{ReachFits}
+use Rattle.plain_state.specs.Zone.{find_controlled, fresh_train, lengthened, path_found}
 use Rattle.zone_state.specs.Zone.{AllFit, ReachFitsFound, path_granted}
-use Rattle.zone_state.proofs.Found.{found_is, absent, changed_is, passes_is, fit_found, fit_set, fit_own, fit_again}
+use Rattle.zone_state.proofs.Found.{found_is, absent, changed_is, passes_is, fit_found, fit_here, fit_set, fit_again}
 use Rattle.zone_state.proofs.Holds.{holds_set}
 use Rattle.zone_state.proofs.Asked.{none_reached}
 use Rattle.zone_state.proofs.zone.Zone.ask.Goals as goal
@@ -15,7 +14,7 @@ pub lengthen-hold-requires-clause-fits : goal.lengthen-hold-requires-clause-fits
 lengthen-hold-requires-clause-fits c =
     let l = rw c.as_slice.ensures.value at c.in-Some.ensures.within in
     let a : AllFit c.args.line.now c.self.inside.clock c.self.inside.trains.items = rw (sym c.self.view_is) at c.requires.fits.trains in
-    fit_own c.args.line.now c.self.inside.clock _ (fit_found c.args.line.now c.self.inside.clock c.self.inside.trains.items c.in-Some.i c.index_mut.result.now l c.index_mut.ensures.value a)
+    fit_here c.args.line.now c.self.inside.clock c.self.inside.trains.items c.in-Some.i c.index_mut.result.now l c.index_mut.ensures.value a
 
 pub lengthen-hold-requires-clause-fresh : goal.lengthen-hold-requires-clause-fresh
 lengthen-hold-requires-clause-fresh c =
@@ -26,7 +25,7 @@ pub lengthen-hold-requires-clause-reaches : goal.lengthen-hold-requires-clause-r
 lengthen-hold-requires-clause-reaches c =
     let h = rw c.as_slice.ensures.value at (sym c.in-Some.ensures.first) in
     let f = found_is c.args.train.0 c.self.inside.trains.items c.in-Some.i c.index_mut.result.now h c.index_mut.ensures.value in
-    let a : ReachFitsFound c.args.line.now (path_found (find_way c.args.train.0 c.self.inside.trains.items)) c.args.asked.now c.reach_of-reach.result.distance = rw (sym c.self.view_is) at c.reach_of-reach.ensures.fits in
+    let a : ReachFitsFound c.args.line.now (path_found (find_controlled c.args.train.0 c.self.inside.trains.items)) c.args.asked.now c.reach_of-reach.result.distance = rw (sym c.self.view_is) at c.reach_of-reach.ensures.fits in
     rw f at a
 
 pub returns-in-Some-clause-gives : goal.returns-in-Some-clause-gives
@@ -57,16 +56,16 @@ returns-in-Some-clause-fits c =
       holds = holds_set c.args.line.now c.self.inside.id c.self.inside.trains.items c.self.inside.holds.items c.in-Some.i c.lengthen-hold.new.x c.lengthen-hold.result g.holds c.lengthen-hold.ensures.hold;
     }
 
-pub returns-in_default-clause-gives : goal.returns-in_default-clause-gives
-returns-in_default-clause-gives c =
+never : goal.In_default → ⊥
+never c =
     let h = rw c.as_slice.ensures.value at (sym c.in_default.ensures.first) in
     let f = absent c.args.train.0 c.self.inside.trains.items h in
     let r = rw (sym c.self.view_is) at c.reach_of-reach.ensures.reach in
-    absurd (let z = none_reached c.args.line.now c.self.inside.id c.self.inside.clock c.self.inside.trains.items c.args.train.0 c.args.asked.now c.args.to c.reach_of-reach.result f r in let d = c.if-reach-eq0.false in omega arith)
+    let z = none_reached c.args.line.now c.self.inside.id c.self.inside.clock c.self.inside.trains.items c.args.train.0 c.args.asked.now c.args.to c.reach_of-reach.result f r in
+    let d = c.if-reach-eq0.false in omega arith
+
+pub returns-in_default-clause-gives : goal.returns-in_default-clause-gives
+returns-in_default-clause-gives c = absurd (never c)
 
 pub returns-in_default-clause-next : goal.returns-in_default-clause-next
-returns-in_default-clause-next c =
-    let h = rw c.as_slice.ensures.value at (sym c.in_default.ensures.first) in
-    let f = absent c.args.train.0 c.self.inside.trains.items h in
-    let r = rw (sym c.self.view_is) at c.reach_of-reach.ensures.reach in
-    absurd (let z = none_reached c.args.line.now c.self.inside.id c.self.inside.clock c.self.inside.trains.items c.args.train.0 c.args.asked.now c.args.to c.reach_of-reach.result f r in let d = c.if-reach-eq0.false in omega arith)
+returns-in_default-clause-next c = absurd (never c)

@@ -1,4 +1,4 @@
-use Rattle.std.proofs.Common.{length, refl, sym, ◌≡◌, ◌∙◌, map}
+use Rattle.std.proofs.Common.{refl, sym, ◌∙◌}
 use Rattle.plain_state.specs.Zone.{grown_train}
 use Rattle.zone_state.proofs.Timed.{all_grown_fit, none_passes}
 use Rattle.zone_state.proofs.Found.{written}

@@ -1,4 +1,4 @@
-use Rattle.std.proofs.Common.{◌≡◌, sym}
+use Rattle.std.proofs.Common.{sym}
 use Rattle.zone_state.specs.Zone.{AllFit}
 use Rattle.zone_state.proofs.Found.{found_is, absent, fit_found, fit_path}
 use Rattle.zone_state.proofs.zone.Zone.reach_of.Goals as goal

@@ -1,9 +1,10 @@
-use Rattle.std.proofs.Common.{◌≡◌, refl, sym, w32, w64, rules}
+use Rattle.std.proofs.Common.{◌≡◌, true, refl, sym, w32, w64, rules}
 use Rattle.std.proofs.lemmas.Int.{to_z-of_z}
 use Rattle.definitions.specs.Track.{seg_len}
-use Rattle.plain_state.specs.Zone.{reported_by}
+use Rattle.way_path.specs.Ways.{plain_way}
+use Rattle.plain_state.specs.Zone.{reported_by, has_mark}
 use Rattle.zone_state.specs.Zone.{AllFit}
-use Rattle.zone_state.proofs.Found.{found_is, absent, changed_is, read_same, fit_found, fit_set, fit_own, fit_again}
+use Rattle.zone_state.proofs.Found.{found_is, absent, changed_is, read_same, fit_found, fit_here, fit_set, fit_again}
 use Rattle.zone_state.proofs.Reported.{marked, not_marked}
 use Rattle.zone_state.proofs.Holds.{holds_set}
 use Rattle.zone_state.proofs.zone.Zone.report.Goals as goal
@@ -12,7 +13,7 @@ pub use_report-hold-requires-clause-fits : goal.use_report-hold-requires-clause-
 use_report-hold-requires-clause-fits c =
     let l = rw c.as_slice.ensures.value at c.in-Some.ensures.within in
     let a : AllFit c.args.line.now c.self.inside.clock c.self.inside.trains.items = rw (sym c.self.view_is) at c.requires.fits.trains in
-    fit_own c.args.line.now c.self.inside.clock _ (fit_found c.args.line.now c.self.inside.clock c.self.inside.trains.items c.in-Some.i c.index_mut.result.now l c.index_mut.ensures.value a)
+    fit_here c.args.line.now c.self.inside.clock c.self.inside.trains.items c.in-Some.i c.index_mut.result.now l c.index_mut.ensures.value a
 
 pub use_report-hold-requires-clause-earlier : goal.use_report-hold-requires-clause-earlier
 use_report-hold-requires-clause-earlier c =
@@ -29,26 +30,27 @@ use_report-hold-requires-clause-place c =
     let p = to_z-of_z w64 c.in-Some-place_of.place (search rules) in
     rw (s, p) (rw o at (sym c.in-Some-place_of.ensures))
 
+-- the way has the step that is named
+used : (c : goal.After-self-in-Some-place_of-1) → has_mark (plain_way c.index_mut.result.now.way) c.args.report.mark ≡ true
+used c =
+    let l = rw c.as_slice.ensures.value at c.in-Some.ensures.within in
+    let o = to_z-of_z w32 c.args.report.offset (search rules) in
+    let s = read_same c.self.inside.trains.items c.in-Some.i c.index_mut.result.now c.index.result.now l c.index_mut.ensures.value c.index.ensures in
+    let m = (marked (seg_len c.args.line.now) c.index.result.now.way c.args.report.mark c.args.report.offset c.in-Some-place_of.place (rw o at (sym c.in-Some-place_of.ensures))).0 in
+    rw (sym s) at m
+
 pub returns-in-Some-place_of-clause-gives : goal.returns-in-Some-place_of-clause-gives
 returns-in-Some-place_of-clause-gives c =
     let h = rw c.as_slice.ensures.value at (sym c.in-Some.ensures.first) in
-    let o = to_z-of_z w32 c.args.report.offset (search rules) in
     let f = found_is c.args.train.0 c.self.inside.trains.items c.in-Some.i c.index_mut.result.now h c.index_mut.ensures.value in
-    let l = rw c.as_slice.ensures.value at c.in-Some.ensures.within in
-    let s = read_same c.self.inside.trains.items c.in-Some.i c.index_mut.result.now c.index.result.now l c.index_mut.ensures.value c.index.ensures in
-    let m = (marked (seg_len c.args.line.now) c.index.result.now.way c.args.report.mark c.args.report.offset c.in-Some-place_of.place (rw o at (sym c.in-Some-place_of.ensures))).0 in
-    let k = rw (sym s) at m in
+    let k = used c in
     rw (← c.self.view_is, f, k) c.use_report-hold.ensures.gives
 
 pub returns-in-Some-place_of-clause-next : goal.returns-in-Some-place_of-clause-next
 returns-in-Some-place_of-clause-next c =
     let h = rw c.as_slice.ensures.value at (sym c.in-Some.ensures.first) in
-    let o = to_z-of_z w32 c.args.report.offset (search rules) in
     let f = found_is c.args.train.0 c.self.inside.trains.items c.in-Some.i c.index_mut.result.now h c.index_mut.ensures.value in
-    let l = rw c.as_slice.ensures.value at c.in-Some.ensures.within in
-    let s = read_same c.self.inside.trains.items c.in-Some.i c.index_mut.result.now c.index.result.now l c.index_mut.ensures.value c.index.ensures in
-    let m = (marked (seg_len c.args.line.now) c.index.result.now.way c.args.report.mark c.args.report.offset c.in-Some-place_of.place (rw o at (sym c.in-Some-place_of.ensures))).0 in
-    let k = rw (sym s) at m in
+    let k = used c in
     let e = changed_is c.args.train.0 (reported_by (seg_len c.args.line.now) c.args.report.time c.args.report.mark c.args.report.offset c.args.report.integrity) c.self.inside.trains.items c.in-Some.i c.index_mut.result.now c.use_report-hold.new.x h c.index_mut.ensures.value c.use_report-hold.ensures.next in
     rw (← c.self.view_is, f, k, e) refl
 

@@ -1,5 +1,4 @@
-use Rattle.std.proofs.Common.{◌≡◌, List, ap, ◌∙◌, arith}
-use Rattle.plain_state.specs.declared.Controlled.{Controlled}
+use Rattle.std.proofs.Common.{◌≡◌, ap, ◌∙◌, arith}
 use Rattle.plain_state.specs.Zone.{PlainZone, trains_stepped, clock_after}
 use Rattle.zone_state.specs.Zone.{ZoneKept}
 use Rattle.zone_state.proofs.Advanced.{gives_one, stepped_follows, gave}

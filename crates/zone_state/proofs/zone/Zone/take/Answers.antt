@@ -1,7 +1,6 @@
 use Rattle.std.proofs.Common.{◌≡◌, true, false, sym, ap, ◌∙◌, max}
-use Rattle.definitions.specs.Control.{message_time}
 use Rattle.plain_state.specs.Zone.{zone_heeds}
-use Rattle.zone_state.specs.Zone.{ZoneKept, passed}
+use Rattle.zone_state.specs.Zone.{ZoneKept}
 use Rattle.zone_state.proofs.Timed.{can_grow}
 use Rattle.zone_state.proofs.Alarms.{fresh_grown}
 use Rattle.zone_state.proofs.zone.Zone.take.Goals as goal

@@ -1,0 +1,2 @@
+//! Laws of tests, numbers and lists alone.
+#![tactic(auto)]
