@@ -10,7 +10,7 @@ use Rattle.definitions.specs.Farther.{end_or_0}
 use Rattle.definitions.specs.Account.{Account, longest_of, end_of, with_at}
 use Rattle.invariant_laws.proofs.Invariant.{SomeIs}
 use Rattle.front_laws.proofs.Route_goes_on.{some_weaker}
-use Rattle.front_laws.proofs.Unshrunk.{Counts}
+use Rattle.front_laws.proofs.Account_moves.{Counts}
 use Rattle.authority_laws.proofs.Farthest.{farthest_last}
 
 -- it ends at a place or before it

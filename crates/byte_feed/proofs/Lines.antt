@@ -1,55 +1,51 @@
 -- Text lines, from their front.
-use Rattle.std.proofs.Common.{◌≡◌, ℕ, List, [], ◌∷◌, ◌++◌, Bool, false, refl, ◌||◌}
+use Rattle.std.proofs.Common.{◌≡◌, ℕ, List, [], ◌∷◌, ◌++◌, false, refl}
 use Rattle.std.specs.Prelude.{nat_eq}
 use Rattle.std.proofs.lemmas.Bool.{or_parts}
 use Rattle.list_laws.proofs.Tests.{by_test}
 use Rattle.definitions.specs.Lines.{text_lines, onto_first, text_of}
+use Rattle.byte_feed.specs.Feed.{ends_lf}
 
--- an LF is among the bytes
-unfoldable pub has_lf : List ℕ → Bool
-has_lf [] = false
-has_lf (b ∷ bytes) = nat_eq b 10 || has_lf bytes
+pub no_lf_here : (b : ℕ) (bytes : List ℕ) → ends_lf (b ∷ bytes) ≡ false → (nat_eq b 10 ≡ false) × (ends_lf bytes ≡ false)
+unfolding ends_lf
+no_lf_here b bytes h = or_parts (nat_eq b 10) (ends_lf bytes) h
 
-pub no_lf_here : (b : ℕ) (bytes : List ℕ) → has_lf (b ∷ bytes) ≡ false → (nat_eq b 10 ≡ false) × (has_lf bytes ≡ false)
-unfolding has_lf
-no_lf_here b bytes h = or_parts (nat_eq b 10) (has_lf bytes) h
-
-pub no_lf_more : (part : List ℕ) (b : ℕ) → has_lf part ≡ false → nat_eq b 10 ≡ false → has_lf (part ++ b ∷ []) ≡ false
-unfolding has_lf
+pub no_lf_more : (part : List ℕ) (b : ℕ) → ends_lf part ≡ false → nat_eq b 10 ≡ false → ends_lf (part ++ b ∷ []) ≡ false
+unfolding ends_lf
 no_lf_more [] b h e = rw e refl
 no_lf_more (x ∷ part) b h e =
     let k = no_lf_here x part h in
     rw k.0 (no_lf_more part b k.1 e)
 
-pub line_whole : (part rest : List ℕ) → has_lf part ≡ false → text_lines (part ++ 10 ∷ rest) ≡ (part ++ 10 ∷ []) ∷ text_lines rest
+pub line_whole : (part rest : List ℕ) → ends_lf part ≡ false → text_lines (part ++ 10 ∷ rest) ≡ (part ++ 10 ∷ []) ∷ text_lines rest
 unfolding text_lines
 line_whole [] rest h = refl
 line_whole (b ∷ part) rest h =
     let k = no_lf_here b part h in
     rw (k.0, line_whole part rest k.1) refl
 
-pub line_last : (b : ℕ) (part : List ℕ) → has_lf (b ∷ part) ≡ false → text_lines (b ∷ part) ≡ (b ∷ part) ∷ []
+pub line_last : (b : ℕ) (part : List ℕ) → ends_lf (b ∷ part) ≡ false → text_lines (b ∷ part) ≡ (b ∷ part) ∷ []
 unfolding text_lines
 line_last b [] h = rw ((no_lf_here b [] h).0) refl
 line_last b (c ∷ part) h =
     let k = no_lf_here b (c ∷ part) h in
     rw (k.0, line_last c part k.1) refl
 
-pub text_whole : (part : List ℕ) → has_lf part ≡ false → text_of (part ++ 10 ∷ []) ≡ part
+pub text_whole : (part : List ℕ) → ends_lf part ≡ false → text_of (part ++ 10 ∷ []) ≡ part
 unfolding text_of
 text_whole [] h = refl
 text_whole (b ∷ part) h =
     let k = no_lf_here b part h in
     rw (k.0, text_whole part k.1) refl
 
-pub text_last : (part : List ℕ) → has_lf part ≡ false → text_of part ≡ part
+pub text_last : (part : List ℕ) → ends_lf part ≡ false → text_of part ≡ part
 unfolding text_of
 text_last [] h = refl
 text_last (b ∷ part) h =
     let k = no_lf_here b part h in
     rw (k.0, text_last part k.1) refl
 
--- the first line begins with a front that has no LF, and the byte behind it
+-- the first line begins with a front that has no LF, and the byte after it
 pub record Begins (bytes front : List ℕ) : Type 0 where
   pub more : List ℕ
   pub lines : List (List ℕ)
@@ -59,7 +55,7 @@ onto : (b : ℕ) (lines : List (List ℕ)) → (more : List ℕ) × (others : Li
 onto b [] = ([], [], refl)
 onto b (line ∷ lines) = (line, lines, refl)
 
-pub line_begins : (part : List ℕ) (b : ℕ) (rest : List ℕ) → has_lf part ≡ false → Begins (part ++ b ∷ rest) (part ++ b ∷ [])
+pub line_begins : (part : List ℕ) (b : ℕ) (rest : List ℕ) → ends_lf part ≡ false → Begins (part ++ b ∷ rest) (part ++ b ∷ [])
 unfolding text_lines
 line_begins [] b rest h = by_test (nat_eq b 10)
     (λ e. record { more = []; lines = text_lines rest; is = rw e refl })

@@ -1,6 +1,5 @@
 -- A piece, and what follows.
-use Rattle.std.proofs.Common.{◌≡◌, ℕ, ◌+◌, ◌<◌, List, [], ◌∷◌, ◌++◌, length, Bool, true, false, refl, sym, ◌∙◌, ap, append_assoc, append-nil, take, drop, get_or, arith}
-use Rattle.std.proofs.lemmas.List.{take_more, take-append-drop}
+use Rattle.std.proofs.Common.{◌≡◌, ℕ, ◌+◌, List, [], ◌∷◌, ◌++◌, length, Bool, true, false, refl, sym, ◌∙◌, ap, append_assoc, arith}
 use Rattle.std.specs.Prelude.{nat_eq, nat_lt}
 use Rattle.list_laws.proofs.Tests.{by_test}
 use Rattle.definitions.specs.declared.document.Ending.TheVariants as ends
@@ -70,22 +69,3 @@ feds_count (b ∷ xs) f h = by_test (is_over (fed f b).next.reading.stage)
     clash : (b : Bool) → b ≡ true → b ≡ false → ⊥
     clash true y n = cc
     clash false y n = cc
-
--- one byte more of a piece
-pub feds_next : (f : Feed) (xs : List ℕ) (i d : ℕ) → i < length xs → feds f (take (i + 1) xs) ≡ (fed (feds f (take i xs)) (get_or xs i d)).next
-unfolding feds
-feds_next f xs i d h = ap (feds f) (take_more xs i d h) ∙ feds_append (take i xs) f (get_or xs i d ∷ [])
-
-pub feds_text_next : (f : Feed) (xs : List ℕ) (i d : ℕ) → i < length xs → feds_text f (take (i + 1) xs) ≡ feds_text f (take i xs) ++ outcomes_text (fed (feds f (take i xs)) (get_or xs i d)).lines
-unfolding feds_text
-feds_text_next f xs i d h =
-    ap (feds_text f) (take_more xs i d h)
-    ∙ (feds_text_append (take i xs) f (get_or xs i d ∷ [])
-    ∙ ap (λ t. feds_text f (take i xs) ++ t) (append-nil (outcomes_text (fed (feds f (take i xs)) (get_or xs i d)).lines)))
-
--- what is left of a piece
-pub feds_text_left : (f : Feed) (xs : List ℕ) (i d : ℕ) → i < length xs → feds_text f xs ≡ (feds_text f (take i xs) ++ outcomes_text (fed (feds f (take i xs)) (get_or xs i d)).lines) ++ feds_text (feds f (take (i + 1) xs)) (drop (i + 1) xs)
-feds_text_left f xs i d h =
-    ap (feds_text f) (sym (take-append-drop (i + 1) xs))
-    ∙ (feds_text_append (take (i + 1) xs) f (drop (i + 1) xs)
-    ∙ ap (λ t. t ++ feds_text (feds f (take (i + 1) xs)) (drop (i + 1) xs)) (feds_text_next f xs i d h))

@@ -8,8 +8,8 @@ use Rattle.definitions.specs.Lines.{text_lines, text_of}
 use Rattle.definitions.specs.declared.document.Ending.TheVariants as ends
 use Rattle.definitions.specs.Endings.{outcomes_text}
 use Rattle.definitions.specs.Trace.{Over, Reading, Step, Given, is_over, start, input_limit, text_read, line_read, stage_ends, behind, ended, given, trace}
-use Rattle.byte_feed.specs.Feed.{Feed, opened, line_fed, kept_on, fed, closed, fed_gives}
-use Rattle.byte_feed.proofs.Lines.{has_lf, no_lf_more, line_whole, line_last, text_whole, text_last, line_begins}
+use Rattle.byte_feed.specs.Feed.{Feed, opened, line_fed, kept_on, fed, closed, fed_gives, ends_lf}
+use Rattle.byte_feed.proofs.Lines.{no_lf_more, line_whole, line_last, text_whole, text_last, line_begins}
 use Rattle.byte_feed.proofs.Kept.{text_read_front, kept_more}
 
 pub over_stays : (r : Reading) (size : ℕ) (text : List ℕ) → is_over r.stage ≡ true → text_read r size text ≡ record { next = r; lines = [] }
@@ -48,7 +48,7 @@ fed_over f (b ∷ rest) h = rw (fed_stays f b h) (fed_over f rest h)
 pub record Keeps (f : Feed) (part : List ℕ) : Type 0 where
   pub kept : f.kept ≡ take 4097 part
   pub size : f.size ≡ length part
-  pub no_lf : has_lf part ≡ false
+  pub no_lf : ends_lf part ≡ false
 
 read_kept : (f : Feed) (part : List ℕ) (size : ℕ) → Keeps f part → text_read f.reading size f.kept ≡ text_read f.reading size part
 read_kept f part size k = ap (text_read f.reading size) k.kept ∙ text_read_front f.reading size part
@@ -88,7 +88,7 @@ pub fed_more : (f : Feed) (b : ℕ) → is_over f.reading.stage ≡ false → na
 unfolding fed
 fed_more f b h e is = rw (h, e, is) refl
 
--- a step, and what the text lines give behind it
+-- a step, and what the text lines give after it
 abbrev went : Step → List (List ℕ) → Given
 went x lines = behind (outcomes_text x.lines) (given x.next lines)
 
@@ -96,8 +96,8 @@ went_over : (r : Reading) (lines : List (List ℕ)) → went (record { next = re
 unfolding stage_ends
 went_over r lines = given_over (record r { stage = Over ends.Input }) lines refl
 
-pub no_lf_none : has_lf [] ≡ false
-unfolding has_lf
+pub no_lf_none : ends_lf [] ≡ false
+unfolding ends_lf
 no_lf_none = refl
 
 over_gives : (r : Reading) (rest : List ℕ) → fed_gives (opened (record r { stage = Over ends.Input })) rest ≡ ended ends.Input

@@ -1,5 +1,5 @@
 -- What was written so far is what the whole text lines so far give.
-use Rattle.std.proofs.Common.{◌≡◌, ℕ, ◌+◌, List, [], ◌∷◌, ◌++◌, length, true, false, refl, sym, ◌∙◌, ap, append_assoc, length-append, append-nil, arith, ◌||◌}
+use Rattle.std.proofs.Common.{◌≡◌, ℕ, ◌+◌, List, [], ◌∷◌, ◌++◌, length, true, false, refl, sym, ◌∙◌, ap, append_assoc, length-append, append-nil, arith}
 use Rattle.std.proofs.Math.Bool.{or-true}
 use Rattle.std.proofs.lemmas.Bool.{ltb-true, lt-ltb, eqb-true}
 use Rattle.std.specs.Prelude.{nat_eq, nat_lt}
@@ -9,14 +9,9 @@ use Rattle.definitions.specs.Lines.{text_lines, text_of}
 use Rattle.definitions.specs.Endings.{outcomes_text}
 use Rattle.definitions.specs.Trace.{Over, Reading, Step, is_over, start, input_limit, text_read, line_read}
 use Rattle.byte_feed.specs.Feed.{Feed, opened, line_fed, kept_on, fed, feds_text, ends_lf, whole_lines, lines_text}
-use Rattle.byte_feed.proofs.Lines.{has_lf, no_lf_more, line_whole, line_last, line_begins}
+use Rattle.byte_feed.proofs.Lines.{no_lf_more, line_whole, line_last, line_begins}
 use Rattle.byte_feed.proofs.Kept.{kept_more}
 use Rattle.byte_feed.proofs.Streams.{Keeps, over_stays, too_long, ends_line, no_lf_none, length_snoc, fed_stays, fed_long, fed_lf, fed_more}
-
-same_lf : (xs : List ℕ) → ends_lf xs ≡ has_lf xs
-unfolding ends_lf has_lf
-same_lf [] = refl
-same_lf (x ∷ xs) = ap (λ b. nat_eq x 10 || b) (same_lf xs)
 
 lf_there : (part : List ℕ) → ends_lf (part ++ 10 ∷ []) ≡ true
 unfolding ends_lf
@@ -51,7 +46,7 @@ part_step r line lines h = rw h refl
 none_yet : (f : Feed) (part : List ℕ) → Keeps f part → feds_text f [] ≡ lines_text f.reading (whole_lines (text_lines part))
 unfolding feds_text lines_text whole_lines text_lines
 none_yet f [] k = refl
-none_yet f (b ∷ part) k = rw (line_last b part k.no_lf, same_lf (b ∷ part) ∙ k.no_lf) refl
+none_yet f (b ∷ part) k = rw (line_last b part k.no_lf, k.no_lf) refl
 
 past : (r : Reading) (line : List ℕ) (lines : List (List ℕ)) → is_over r.stage ≡ false → nat_lt input_limit (r.bytes + length line) ≡ true → lines_text r (whole_lines (line ∷ lines)) ≡ []
 past r line lines on long = by_test (ends_lf line)

@@ -1,10 +1,10 @@
 -- A document byte by byte. Of a text line at most 4,097 bytes are kept, and their number.
-use Rattle.std.specs.Prelude.{ℕ, ◌+◌, List, [], ◌∷◌, ◌++◌, length, Bool, false, ◌||◌, if◌then◌else◌, nat_lt, nat_eq}
+use Rattle.std.specs.Prelude.{◌≡◌, ℕ, ◌+◌, ◌-◌, List, [], ◌∷◌, ◌++◌, length, take, Bool, false, ◌||◌, if◌then◌else◌, nat_lt, nat_eq}
 use Rattle.definitions.specs.declared.outcome.Outcome.{Outcome}
 use Rattle.definitions.specs.Endings.{outcomes_text}
 use Rattle.definitions.specs.Trace.{Reading, Step, is_over, input_limit, text_read, line_read, stage_ends, Given, behind, ended}
 
--- behind the whole text lines: the front of the text line that has begun, and how many bytes it has
+-- after the whole text lines: the front of the text line that has begun, and how many bytes it has
 pub record Feed : Type 0 where
   pub reading : Reading
   pub kept : List ℕ
@@ -26,6 +26,13 @@ line_fed x = record { next = opened x.next; lines = x.lines }
 -- one byte more of a text line, where there is room
 abbrev pub kept_on : List ℕ → ℕ → List ℕ
 kept_on kept b = if nat_lt (length kept) 4097 then kept ++ b ∷ [] else kept
+
+-- a run of bytes more of a text line, as far as there is room
+abbrev pub kept_run : List ℕ → List ℕ → List ℕ
+kept_run kept run = kept ++ take (4097 - length kept) run
+
+abbrev pub run_on : Feed → List ℕ → Feed
+run_on f run = record f { kept = kept_run f.kept run; size = f.size + length run }
 
 -- one byte more
 unfoldable pub fed : Feed → ℕ → Fed
@@ -53,6 +60,11 @@ feds f (b ∷ bytes) = feds (fed f b).next bytes
 unfoldable pub feds_text : Feed → List ℕ → List ℕ
 feds_text f [] = []
 feds_text f (b ∷ bytes) = outcomes_text (fed f b).lines ++ feds_text (fed f b).next bytes
+
+-- a piece leads there, and writes those outcome lines
+pub record Leads (f : Feed) (piece : List ℕ) (x : Fed) : Type 0 where
+  pub next : feds f piece ≡ x.next
+  pub text : feds_text f piece ≡ outcomes_text x.lines
 
 -- the bytes taken
 abbrev pub total : Feed → ℕ

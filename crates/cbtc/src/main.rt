@@ -14,7 +14,7 @@ use std::rt::Env;
 use std::{env, io};
 use top::cbtc_top;
 
-/// The words behind the program's name. Words that cannot be read are none.
+/// The words after the program's name. Words that cannot be read are none.
 fn words_of(rt: &(impl Env + Alloc<A = Global>)) -> Result<Vec<String>, AllocError> {
     let mut words = Vec::new(rt.alloc());
     match env::args(rt) {

@@ -21,12 +21,8 @@ const USAGE: &str = "usage: cbtc run, check, race, race trace or big N\n";
 
 /// The text of a part, without its last LF.
 fn part(name: &str) -> Option<&'static str> {
-    for (found, text) in PARTS {
-        if *found == name {
-            return Some(*text);
-        }
-    }
-    None
+    let at = PARTS.iter().position(|one| one.0 == name)?;
+    Some(PARTS[at].1)
 }
 
 /// Adds a line that is told: `+ PART` stands for the lines of the part.
@@ -110,7 +106,7 @@ impl Rows {
         Ok(())
     }
 
-    /// Adds a line: one of the document up to the line `- STATUS`, and behind it one of the text.
+    /// Adds a line: one of the document up to the line `- STATUS`, and after it one of the text.
     fn add(&mut self, line: &str) -> Result<(), AllocError> {
         if let Some(code) = line.strip_prefix("- ") {
             self.code = code.parse::<u8>().ok();
@@ -135,6 +131,26 @@ impl Rows {
         }
         self.add(line)
     }
+
+    /// A table.
+    fn table(
+        &mut self,
+        rt: &(impl Abort + Alloc<A = Global>),
+        table: &str,
+    ) -> Result<(), AllocError> {
+        for line in table.split('\n') {
+            self.line(rt, line)?;
+        }
+        self.try_row(rt)
+    }
+
+    /// All tables: how many rows were tried.
+    fn tables(&mut self, rt: &(impl Abort + Alloc<A = Global>)) -> Result<u32, AllocError> {
+        for table in TABLES {
+            self.table(rt, table)?;
+        }
+        Ok(self.tried)
+    }
 }
 
 #[test]
@@ -145,13 +161,8 @@ fn documents_of_the_tables(rt: HostRuntime) -> Result<(), AllocError> {
         text: Vec::new(rt.alloc()),
         tried: 0,
     };
-    for table in TABLES {
-        for line in table.split('\n') {
-            rows.line(&rt, line)?;
-        }
-        rows.try_row(&rt)?;
-    }
-    assert!(rt; rows.tried == ROWS);
+    let tried = rows.tables(&rt)?;
+    assert!(rt; tried == ROWS);
     Ok(())
 }
 
@@ -240,17 +251,29 @@ const CALLS: &[Call<'static>] = &[
         ..NO_COMMAND
     },
     Call {
-        name: "no room after the first outcome",
-        room: 12,
+        name: "the second write fails",
+        writes: &[2],
         status: Status::Write,
-        text: "entry 1 7 1\n",
+        text: "entry 1 7 1\nanswer 7 1 taken\n",
+        ..CALL
+    },
+    Call {
+        name: "a third write would fail",
+        writes: &[3],
+        ..CALL
+    },
+    Call {
+        name: "no room for the lines of the piece",
+        room: 28,
+        status: Status::Write,
+        text: "",
         ..CALL
     },
     Call {
         name: "no room for the last LF",
         room: 59,
         status: Status::Write,
-        text: "entry 1 7 1\nanswer 7 1 taken\ngrant 1 7 2 3+ 300000 1\ndone 8",
+        text: "entry 1 7 1\nanswer 7 1 taken\n",
         ..CALL
     },
     Call {
@@ -283,22 +306,48 @@ fn calls(rt: HostRuntime) -> Result<(), AllocError> {
     Ok(())
 }
 
-/// Whether a run whose sink fails at that call says so, and wrote a front of the text.
-fn fails_at(alloc: Global, input: &[u8], call: u32) -> Result<bool, AllocError> {
-    let writes = [call];
-    let (status, text) = given(alloc, RUN, input, &[], &writes, 1000)?;
-    let whole = ONE_TRAIN_TOLD.as_bytes();
-    Ok(status == Status::Write && whole.starts_with(text.as_slice()) && text.len() < whole.len())
+/// Whether a document, of which so many bytes come in the first piece after a comment, gives what it gives alone; the sink
+/// is called once for each of the two pieces and once at the end.
+fn split_gives(alloc: Global, document: &[u8], first: usize) -> Result<bool, AllocError> {
+    let mut input = vec![in alloc; b'#'; 65_535usize.saturating_sub(first)]?;
+    input.push(b'\n')?;
+    input.extend_from_slice(document)?;
+    let (status, text) = given(alloc, RUN, input.as_slice(), &[], &[4], 1000)?;
+    Ok(status == Status::Done && text.as_slice() == ONE_TRAIN_TOLD.as_bytes())
 }
 
+/// A piece may end anywhere in a document.
 #[test]
-fn each_write_fails(rt: HostRuntime) -> Result<(), AllocError> {
-    let mut input = Vec::new(rt.alloc());
-    add_document(&mut input, ONE_TRAIN)?;
-    for call in 1..34 {
-        let fails = fails_at(rt.alloc(), input.as_slice(), call)?;
-        assert!(rt; fails, "call {call}");
+fn in_pieces(rt: HostRuntime) -> Result<(), AllocError> {
+    let mut document = Vec::new(rt.alloc());
+    add_document(&mut document, ONE_TRAIN)?;
+    for first in 0..document.len() {
+        let same = split_gives(rt.alloc(), document.as_slice(), first)?;
+        assert!(rt; same, "{first} bytes in the first piece");
     }
+    Ok(())
+}
+
+/// Adds a line so many times.
+fn add_lines(all: &mut Vec<u8>, line: &[u8], times: u32) -> Result<(), AllocError> {
+    for _ in 0..times {
+        all.extend_from_slice(line)?;
+    }
+    Ok(())
+}
+
+/// 110 KB that give 180 KB: the text of each of the two pieces is written in two calls, and the last line in a fifth.
+#[test]
+fn much_text(rt: HostRuntime) -> Result<(), AllocError> {
+    let mut input = Vec::new(rt.alloc());
+    add_document(&mut input, "+ four segments\n+ asks for entry\n")?;
+    add_lines(&mut input, b"take 1 0 1\n", 10_000)?;
+    let mut told = Vec::new(rt.alloc());
+    add_lines(&mut told, b"entry 1 7 1\n", 1)?;
+    add_lines(&mut told, b"noentry 1 7 known\n", 9_999)?;
+    add_lines(&mut told, b"done 10002\n", 1)?;
+    let (status, text) = given(rt.alloc(), RUN, input.as_slice(), &[], &[6], 200_000)?;
+    assert!(rt; status == Status::Done && text.as_slice() == told.as_slice());
     Ok(())
 }
 
@@ -365,7 +414,7 @@ fn too_many_segments(rt: HostRuntime) -> Result<(), AllocError> {
     Ok(())
 }
 
-/// Whether so many trains, and what comes behind them, give a status and a text.
+/// Whether so many trains, and what comes after them, give a status and a text.
 fn trains_give(
     alloc: Global,
     trains: u32,

@@ -55,7 +55,7 @@ asks_dropped zero xs = omega arith
 asks_dropped (suc n) [] = omega arith
 asks_dropped (suc n) (m ∷ xs) = let i = asks_dropped n xs in omega (arith, i)
 
--- behind a later place there are no more but those that are new
+-- after a later place there are no more but those that are new
 asks_behind : (m n : ℕ) (xs ys : List Msg) → m ≤ n → asks_in (drop n (xs ++ ys)) ≤ asks_in (drop m xs) + asks_in ys
 unfolding asks_in
 asks_behind zero n xs ys h = let d = asks_dropped n (xs ++ ys) in let e = asks_joined xs ys in omega (arith, d, e)
@@ -70,7 +70,7 @@ asks_fewer m n xs h =
     let e = ap (λ (zs : List Msg). asks_in (drop n zs)) (append-nil xs) in
     omega (arith, b, e)
 
--- behind the next place the one between is left out
+-- after the next place the one between is left out
 asks_next : (n : ℕ) (xs : List Msg) → asks_in (drop (suc n) xs) + asks_at (slice_get xs n) ≤ asks_in (drop n xs)
 unfolding asks_in
 asks_next zero [] = omega arith
@@ -122,7 +122,7 @@ zone_sends line (e ∷ events) from to h =
 
 -- Links.
 
--- the asks and requests for entry that the world sent to an actor, and that stand behind all that it took
+-- the asks and requests for entry that the world sent to an actor, and that stand after all that it took
 abbrev pub waiting : ℕ → Story → ℕ
 waiting to s = asks_in (drop (taken_most to 0 s) (sent 0 to s))
 

@@ -245,7 +245,7 @@ script_leads_up [] r before [] events at says_ ok one fin adm within = absurd cc
 script_leads_up [] r before (i ∷ items) events at says_ ok one fin adm within = absurd cc
 script_leads_up (l ∷ ls) r before items events at says_ ok one fin adm within = item_up l ls (script_leads_up ls) (line_of (text_of l)) refl r before items events at says_ ok one fin adm within
 
--- Text lines, and what is behind them.
+-- Text lines, and what follows them.
 
 pub given_front : (lines rest : List (List ℕ)) (r : Reading) → given r (lines ++ rest) ≡ behind (lines_text r lines) (given (stands r lines) rest)
 unfolding given stands lines_text

@@ -74,7 +74,7 @@ no_lines = refl
 three_events : (whole items further).ending ≡ ends.Done 3
 three_events = refl
 
--- a train that comes on and holds no authority is refused; what stands behind is not read
+-- a train that comes on and holds no authority is refused; what follows is not read
 abbrev broken : List ℕ
 broken = codes "zone 1\nscript\ntrain 7 60 2 20 eq\nenter 7\nzone 1\n"
 

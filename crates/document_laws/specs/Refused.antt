@@ -36,7 +36,7 @@ ItemRefused n items i (ends.Unbuilt m) = (m ≡ n) × (second_zone items i ≡ t
 ItemRefused n items i (ends.Rule m r) = (m ≡ n) × (second_zone items i ≡ false) × (r ≡ rule_of items i) × (0 < r)
 ItemRefused n items i ending = ⊥
 
--- what refuses text line n among the items: an item; the word, behind items of which the line does not finish; or what is
+-- what refuses text line n among the items: an item; the word, after items of which the line does not finish; or what is
 -- no item
 abbrev pub ItemsRefuse : ℕ → List Item → TextLine → Ending → Type 0
 ItemsRefuse n items (says.Item i) ending = ItemRefused n items i ending
@@ -45,7 +45,7 @@ ItemsRefuse n items says.Passed ending = ⊥
 ItemsRefuse n items text ending = ending ≡ ends.Unbuilt n
 
 -- within the limit: items that make a line of at most one zone, the word, and events that keep the premises; then a text
--- line that is refused, behind which nothing is read
+-- line that is refused, after which nothing is read
 pub record IsRefusedInScript (bytes : List ℕ) (items : List Item) (events : List Event) (ending : Ending) : Type 0 where
   pub before : List (List ℕ)
   pub last : List ℕ

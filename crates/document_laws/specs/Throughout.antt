@@ -18,7 +18,7 @@ pub record SafeHistory (line : Line) (events : List Event) : Type 0 where
   pub safe : Safe line (story_of line events)
   pub granted : AllGranted line events
 
--- safety where a document stands: in its script, that of its history behind each of its events; there a delivery is its
+-- safety where a document stands: in its script, that of its history after each of its events; there a delivery is its
 -- takes, and so this speaks of the moments between these too. And the clock stays below 2^40 ms.
 abbrev pub SafeAt : Stage → Type 0
 SafeAt (Items items) = Unit {0}

@@ -1,3 +1,4 @@
+pub mod By_first_bytes
 pub mod Number_fits
-pub mod Outcomes
+pub mod Part_texts
 mod Worked

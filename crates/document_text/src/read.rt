@@ -2,7 +2,7 @@
 ghost use Rattle.std.specs.Prelude.{◌≡◌, ◌+◌, ◌-◌, ◌<◌, ◌≤◌, ◌^◌, IfSome};
 ghost use Rattle.arrayvec.specs.ArrayVec.{array_vec_len};
 ghost use Rattle.definitions.specs.Grammar.{number_at, digits_at, word_at, field_at, sign_at, end_at, ranged_at, step_in, step_at, is_sign, asked_at, zone_line, segment_line, joint_line, portal_line, buffer_line, silent_line, script_line, train_line, entry_line, enter_line, ask_line, moves_at, step_line, signed_at, report_line, time_line, deliver_line, take_line, item_form, event_form, form_of, line_of};
-ghost use Rattle.document_text.specs.Sees.{Sees, PutBehind};
+ghost use Rattle.document_text.specs.Sees.{Sees, PutBehind, begins};
 
 use arrayvec::ArrayVec;
 use definitions::document::TextLine;
@@ -279,7 +279,7 @@ fn signed(bytes: &[u8]) -> bool
     }
 }
 
-/// The steps of an ask and the number behind them, where it has a step and the number is in its range.
+/// The steps of an ask and the number after them, where it has a step and the number is in its range.
 fn asked_end(
     steps: ArrayVec<DirSeg, 24>,
     to: u64,
@@ -297,7 +297,7 @@ fn asked_end(
     }
 }
 
-/// The steps of an ask, behind `steps` and at most `more`, and the number behind them.
+/// The steps of an ask, after `steps` and at most `more`, and the number after them.
 #[tactic(auto, unfolding(definitions::specs::Grammar::asked_at))]
 fn asked(
     steps: ArrayVec<DirSeg, 24>,
@@ -333,7 +333,7 @@ fn ask(text: &[u8]) -> Option<TextLine>
     )
 }
 
-/// Trains and the mm that they move, at most `more`, put behind those before; false where this cannot be read, and then
+/// Trains and the mm that they move, at most `more`, put after those before; false where this cannot be read, and then
 /// some may have been put.
 #[tactic(auto, unfolding(definitions::specs::Grammar::moves_at))]
 fn moves(moved: &mut ArrayVec<(TrainId, u32), 256>, more: u64, bytes: &[u8]) -> bool
@@ -461,7 +461,7 @@ fn either(a: Option<TextLine>, b: Option<TextLine>) -> Option<TextLine>
     }
 }
 
-/// An item, or the line behind the items.
+/// An item, or the line after the items.
 #[tactic(auto, unfolding(definitions::specs::Grammar::item_form))]
 fn item(text: &[u8]) -> Option<TextLine>
     ensures { result ≡ item_form text.now }
@@ -482,29 +482,62 @@ fn event(text: &[u8]) -> Option<TextLine>
     either(train(text), either(entry(text), asks))
 }
 
-/// What a text line says that is not passed over.
-#[tactic(auto, unfolding(definitions::specs::Grammar::form_of))]
-fn form(text: &[u8]) -> TextLine
-    ensures { result ≡ form_of text.now }
+/// Puts what was found in its place; else the text line is strange.
+fn put(says: &mut TextLine, found: Option<TextLine>)
+    ensures { says.new ≡ Rattle.definitions.specs.Grammar.strange_else found }
 {
-    match either(item(text), event(text)) {
-        Some(says) => says,
-        None => TextLine::Strange,
+    match found {
+        Some(found) => *says = found,
+        None => *says = TextLine::Strange,
     }
 }
 
-/// What a text line says.
-#[tactic(auto, unfolding(definitions::specs::Grammar::line_of))]
-pub fn text_line(text: &[u8]) -> TextLine
-    ensures { result ≡ line_of text.now }
+/// Whether a text begins with these two bytes.
+#[tactic(auto, unfolding(crate::specs::Sees::begins))]
+fn begins(text: &[u8], first: u8, second: u8) -> bool
+    ensures { result ≡ begins first second text.now }
 {
     match text {
-        [] | [b'#', ..] => TextLine::Passed,
+        [one, other, ..] => *one == first && *other == second,
+        _ => false,
+    }
+}
+
+/// What a text line says that is not passed over. The forms of which documents have many are found by their first bytes, any
+/// other by trying all.
+#[tactic(auto, unfolding(definitions::specs::Grammar::form_of), using(crate::proofs::By_first_bytes::segment_first, crate::proofs::By_first_bytes::joint_first, crate::proofs::By_first_bytes::ask_first, crate::proofs::By_first_bytes::step_first, crate::proofs::By_first_bytes::report_first, crate::proofs::By_first_bytes::take_first))]
+fn form(text: &[u8], says: &mut TextLine)
+    ensures { says.new ≡ form_of text.now }
+{
+    if begins(text, b'r', b'e') {
+        put(says, report(text));
+    } else if begins(text, b't', b'a') {
+        put(says, take(text));
+    } else if begins(text, b's', b't') {
+        put(says, time_step(text));
+    } else if begins(text, b'a', b's') {
+        put(says, ask(text));
+    } else if begins(text, b'j', b'o') {
+        put(says, joint(text));
+    } else if begins(text, b's', b'e') {
+        put(says, segment(text));
+    } else {
+        put(says, either(item(text), event(text)));
+    }
+}
+
+/// What a text line says, put in its place: an event is large.
+#[tactic(auto, unfolding(definitions::specs::Grammar::line_of))]
+pub fn text_line(text: &[u8], says: &mut TextLine)
+    ensures { says.new ≡ line_of text.now }
+{
+    match text {
+        [] | [b'#', ..] => *says = TextLine::Passed,
         _ => {
             if text.len() > 4096 {
-                TextLine::Strange
+                *says = TextLine::Strange;
             } else {
-                form(text)
+                form(text, says);
             }
         }
     }

@@ -2,7 +2,7 @@
 ghost use Rattle.std.specs.Prelude.{◌≡◌, ◌++◌};
 ghost use Rattle.std.specs.Fmt.{decimal};
 ghost use Rattle.edge_io.specs.Writing.{Wrote};
-ghost use Rattle.definitions.specs.Endings.{step_field, outcome_text, outcomes_text, ending_text};
+ghost use Rattle.definitions.specs.Endings.{step_field, outcome_text, ending_text};
 ghost use Rattle.document_text.specs.Parts.{part_text, parts_text};
 
 use Part::{Held, Number, Premise, Rule, Step};
@@ -207,19 +207,6 @@ pub fn write_outcome<K: Sink>(outcome: &Outcome, sink: &mut K) -> Result<(), Wri
             let parts = [Number(t.0 as u64), Number(n as u64)];
             write_line(b"answer", &parts, answer_word(word), sink)
         }
-    }
-}
-
-/// Outcome lines, one behind the other.
-pub fn write_outcomes<K: Sink>(outcomes: &[Outcome], sink: &mut K) -> Result<(), WriteFault>
-    ensures { Wrote K.written K.faults sink.old sink.new (outcomes_text outcomes.now) result }
-{
-    match outcomes {
-        [] => Ok(()),
-        [outcome, rest @ ..] => match write_outcome(outcome, sink) {
-            Ok(()) => write_outcomes(rest, sink),
-            Err(fault) => Err(fault),
-        },
     }
 }
 

@@ -16,7 +16,7 @@ use Rattle.definitions.specs.Zones.{zone_id}
 use Rattle.invariant_laws.proofs.Invariant.{FrontsAre, ControlIs}
 use Rattle.front_laws.proofs.Front_numbers.{takes_by, grown_to, fronts_unused, fronts_left, fronts_kept, least_rear_is}
 use Rattle.event_laws.proofs.Entries.{fronts_granted, fronts_idle, fronts_acted}
-use Rattle.front_laws.proofs.Front_entry.{known_long}
+use Rattle.front_laws.proofs.Entry_fronts.{known_long}
 
 -- a test that passes two ranges, neither of them empty, passes one
 range_once : (test : ℕ → Bool) (lo hi lo2 hi2 : ℕ) → IsRange test lo hi → IsRange test lo2 hi2 → lo ≤ hi → lo2 ≤ hi2 → (lo ≡ lo2) × (hi ≡ hi2)

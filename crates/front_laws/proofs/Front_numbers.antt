@@ -23,8 +23,8 @@ use Rattle.list_laws.proofs.Tests.{by_test}
 use Rattle.definitions.specs.World.{journey}
 use Rattle.definitions.specs.Account.{Account, takes_shrink}
 use Rattle.definitions.specs.Fold.{account, by_answer}
-use Rattle.front_laws.proofs.Exact.{report_ends, report_ruled}
-use Rattle.front_laws.proofs.Ranges.{range_first, range_last, range_grown}
+use Rattle.front_laws.proofs.Report_ruled.{report_ends, report_ruled}
+use Rattle.front_laws.proofs.Ruled_range.{range_first, range_last, range_grown}
 
 -- fronts of a train, as a test, with these ends: a range, its first and its last number, and the rear at the first
 pub record Numbered (line : Line) (t : ℕ) (s : Story) (test : ℕ → Bool) (lo hi : ℕ) : Type 0 where
@@ -103,7 +103,7 @@ named_place line t s mark offset = pos (total (seg_len line) (take mark (longest
 abbrev pub moved_since : Line → ℕ → Story → Msg → ℕ → ℕ
 moved_since line t s m time = farthest_move (known_facts (zone_id line) t s).speed (now_with (zone_id line) s m - time)
 
--- the ends of the fronts behind a used report, from those before the message
+-- the ends of the fronts after a used report, from those before the message
 abbrev pub fronts_left : Line → ℕ → Story → Msg → ℕ → ℕ → ℕ → ℕ → ℤ → Bool → Fronts
 fronts_left line t s m lo hi time mark offset integrity =
     narrowed (record { lo = lo; hi = grown_to line t s m hi; at = now_with (zone_id line) s m })

@@ -29,17 +29,17 @@ use Rattle.event_laws.proofs.Stays.{long_stays, entered_stays}
 use Rattle.motion_laws.proofs.Motion.{place_at, Motion, Timed, place_stays}
 use Rattle.invariant_laws.proofs.Invariant.{step_begin, ReportIs, ReportTrue, FrontsAre, ControlIs, Authorized, Invariant}
 use Rattle.event_laws.proofs.Does.{took_issued, effect_took}
-use Rattle.front_laws.proofs.Heads.{place_within, longest_mark}
+use Rattle.front_laws.proofs.Head_place.{place_within, longest_mark}
 use Rattle.definitions.specs.World.{journey}
 use Rattle.definitions.specs.Account.{Account, ruled, shrink_end}
 use Rattle.definitions.specs.Fold.{account, by_answer}
 use Rattle.motion_laws.proofs.Motion.{place}
-use Rattle.front_laws.proofs.Ranges.{ruled_is}
-use Rattle.front_laws.proofs.Exact.{cut_ruled, true_kept}
+use Rattle.front_laws.proofs.Ruled_range.{ruled_is}
+use Rattle.front_laws.proofs.Report_ruled.{cut_ruled, true_kept}
 use Rattle.front_laws.proofs.Front_numbers.{takes_by, grown_to, fronts_grown, fronts_unused, named_place, moved_since, fronts_left, fronts_kept}
 use Rattle.event_laws.proofs.Entries.{fronts_idle, fronts_acted}
 use Rattle.event_laws.proofs.Controls.{now_idle, now_acted, controls_before}
-use Rattle.front_laws.proofs.Front_entry.{known_speed, known_error, entry_fronts}
+use Rattle.front_laws.proofs.Entry_fronts.{known_speed, known_error, entry_fronts}
 
 -- an estimate from where a step begins
 estimate : (begin other was error same : ℕ) (offset : ℤ) → other ≡ begin → error ≡ same → le_z (pos begin +ℤ offset) (pos (was + error)) ≡ true → le_z (pos was) (pos (begin + error) +ℤ offset) ≡ true

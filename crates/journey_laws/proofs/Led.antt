@@ -17,7 +17,7 @@ unfolding last_step
 last_more st [] some = absurd (omega arith)
 last_more st (x ∷ steps) some = refl
 
--- behind the first steps of the track come those that follow the last of them
+-- after the first steps of the track come those that follow the last of them
 track_onward : (line : Line) (first : Option DirSeg) (n m : ℕ) → length (track_from line first (suc n)) ≡ suc n
     → track_from line first (suc n) ++ track_from line (next_step line (last_step (track_from line first (suc n)))) m ≡ track_from line first (suc n + m)
 unfolding track_from last_step

@@ -1,2 +1,2 @@
-//! Laws of journeys: a journey is the track from its first step up to the head, and no step comes twice behind a portal.
+//! Laws of journeys: a journey is the track from its first step up to the head, and no step comes twice after a portal.
 #![tactic(auto)]

@@ -11,7 +11,7 @@ use definitions::item::{End, Item};
 use std::alloc::{AllocError, Global};
 use std::marker::Model;
 
-/// The items of a line, none of which broke a rule behind those before it. Contracts see it as their list.
+/// The items of a line, none of which broke a rule after those before it. Contracts see it as their list.
 #[derive(Drop)]
 pub struct LineIndex {
     items: Vec<Item>,
@@ -59,7 +59,7 @@ impl LineIndex {
         self.items.as_slice()
     }
 
-    /// Adds an item that breaks no rule behind the others. Where there is no memory for it, the items stay as they were.
+    /// Adds an item that breaks no rule after the others. Where there is no memory for it, the items stay as they were.
     pub fn add(&mut self, item: &Item) -> Result<(), AllocError>
         requires { rule_of self.old item.now ≡ 0 }
         ensures ok { OnOk result (self.new ≡ self.old ++ item.now ∷ []) }

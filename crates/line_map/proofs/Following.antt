@@ -1,4 +1,4 @@
--- What is behind a step of a line is the step that follows it, where one does.
+-- What follows a step of a line is the step that follows it, where one does.
 use Rattle.std.proofs.Common.{◌≡◌, ℕ, Bool, true, false, ◌||◌, List, [], ◌∷◌, ◌++◌, refl, sym, ◌∙◌, ap, arith, nat_eq}
 use Rattle.std.specs.Prelude.{Option, Some, None}
 use Rattle.std.specs.List.{list_any}
@@ -68,7 +68,7 @@ still_used before i e h = rw (list_any-append (uses e) before (i ∷ [])) (one_o
     one_of : (x y : Bool) → (x || y) ≡ true → (x || (y || false)) ≡ true
     one_of x y h = grind arith
 
--- behind an item that uses the exit end no joint leads on
+-- after an item that uses the exit end no joint leads on
 no_more : (items before : List Item) (st : DirSeg) → builds before items ≡ true → list_any (uses (exit_of st)) before ≡ true → next_step items st ≡ None
 unfolding builds next_step
 no_more [] before st b used = refl

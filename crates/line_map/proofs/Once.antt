@@ -29,7 +29,7 @@ first_stays used.Buffer v h = refl
 first_used : (e : End) (i : Item) (v : EndUse) → uses e i ≡ true → first_use (use_in e i) v ≡ use_in e i
 first_used e i v h = first_stays (use_in e i) v (sym (used_in e i) ∙ h)
 
--- what an item says of an end only where it uses it, none says that comes behind one that does
+-- what an item says of an end only where it uses it, none says that comes after one that does
 none_more : (t : Item → Bool) (e : End) → ((i : Item) → uses e i ≡ false → t i ≡ false) → (items before : Line)
     → builds before items ≡ true → list_any (uses e) before ≡ true → list_any t items ≡ false
 unfolding builds

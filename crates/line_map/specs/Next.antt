@@ -1,4 +1,4 @@
--- What is behind a step.
+-- What follows a step.
 use Rattle.std.specs.Prelude.{◌≡◌, ◌≤◌, ⊤, [], ◌∷◌, Bool, true, false, if◌then◌else◌, Option, Some, None}
 use Rattle.track_points.specs.declared.ids.DirSeg.{DirSeg}
 use Rattle.definitions.specs.declared.item.End.{End}
@@ -51,7 +51,7 @@ is_portal_use (Joined e) = false
 is_portal_use used.Portal = true
 is_portal_use used.Buffer = false
 
--- what is behind a step: by the first item that uses its exit end. An end is used at most once (rule 6) and every end
+-- what follows a step: by the first item that uses its exit end. An end is used at most once (rule 6) and every end
 -- is used (rule 7), so in a valid line there is exactly one such item; where there is none, this says Buffer.
 unfoldable pub after_end : Line → End → After
 after_end [] e = Buffer
@@ -60,7 +60,7 @@ after_end (i ∷ line) e = if uses e i then after_item e i else after_end line e
 abbrev pub after_of : Line → DirSeg → After
 after_of line step = after_end line (exit_of step)
 
--- a step is behind it exactly where a step follows, and that one
+-- a step comes next exactly where a step follows, and that one
 abbrev pub AfterIs : Option DirSeg → After → Type 0
 AfterIs (Some b) (Plain c) = b ≡ c
 AfterIs (Some b) _ = ⊥

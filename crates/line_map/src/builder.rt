@@ -30,7 +30,7 @@ pub enum LineFault {
 /// How many segments a line has at most.
 const SEGMENTS: usize = 512;
 
-/// The items so far, none of which broke a rule behind those before it, and room for the order of the segments.
+/// The items so far, none of which broke a rule after those before it, and room for the order of the segments.
 #[derive(Drop)]
 pub struct LineBuilder {
     index: LineIndex,
@@ -67,7 +67,7 @@ impl LineBuilder {
         self.index.has_a_zone()
     }
 
-    /// Adds an item behind the others. One that breaks a rule is refused with the least rule that it breaks; what is
+    /// Adds an item after the others. One that breaks a rule is refused with the least rule that it breaks; what is
     /// refused, and what there is no memory for, leaves the items as they were.
     pub fn add(&mut self, item: &Item) -> Result<(), LineFault>
         ensures { Adds self.old item.now result self.new }

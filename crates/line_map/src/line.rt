@@ -12,7 +12,7 @@ use std::alloc::{AllocError, Global};
 use std::marker::Model;
 use track_points::{DirSeg, SegId, ZoneId};
 
-/// What is behind the exit end of a step.
+/// What follows the exit end of a step.
 #[derive(Clone, Copy)]
 pub enum After {
     /// One step, which comes in at the other end of the joint.
@@ -183,7 +183,7 @@ impl Line {
         self.index.silent_after()
     }
 
-    /// What is behind the exit end of a step: each end of a line is used by exactly one joint, portal or buffer.
+    /// What follows the exit end of a step: each end of a line is used by exactly one joint, portal or buffer.
     pub fn after(&self, at: DirSeg) -> After
         requires { has_segment self.now at.seg.0 ≡ true }
         ensures is { result ≡ after_of self.now at }

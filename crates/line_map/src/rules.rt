@@ -87,7 +87,7 @@ fn silent_breaks(index: &LineIndex, ms: u64) -> u8
     }
 }
 
-/// The least rule that an item breaks behind these items, 0 for none.
+/// The least rule that an item breaks after these items, 0 for none.
 pub fn breaks(index: &LineIndex, item: &Item) -> u8
     ensures { result ≡ rule_of index.now item.now }
 {
@@ -138,7 +138,7 @@ fn goes_on_within(index: &LineIndex, z: u64, e: End) -> bool
     joins_zone(index, z, index.use_of(e))
 }
 
-/// Whether the item is a portal behind which no segment of the same zone follows.
+/// Whether the item is a portal after which no segment of the same zone follows.
 fn is_bare_portal(index: &LineIndex, item: &Item) -> bool
     requires { builds [] index.now ≡ true }
     ensures { result ≡ is_bare index.now item.now }

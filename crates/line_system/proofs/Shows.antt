@@ -1,7 +1,6 @@
 -- What a system keeps shows what its history tells.
-use Rattle.std.proofs.Common.{◌≡◌, ℕ, List, Option, Some, None, true, false, refl, sym, ◌∙◌, subst}
+use Rattle.std.proofs.Common.{◌≡◌, ℕ, List, Option, Some, None, false, refl, sym, ◌∙◌, subst}
 use Rattle.std.specs.Prelude.{is_some}
-use Rattle.track_points.specs.Points.{Point}
 use Rattle.track_points.specs.Sets.{Points}
 use Rattle.definitions.specs.declared.event.Event.{Event}
 use Rattle.definitions.specs.Track.{Line, layout}
@@ -13,7 +12,7 @@ use Rattle.plain_state.specs.declared.Controlled.{Controlled}
 use Rattle.plain_state.specs.Zone.{PlainZone, find_controlled}
 use Rattle.definitions.specs.Zones.{zone_id}
 use Rattle.plain_state.specs.Refinement.{zone_train_of, ZoneRefines}
-use Rattle.step_laws.proofs.Every.{invariant_story}
+use Rattle.step_laws.proofs.Invariant_story.{invariant_story}
 use Rattle.zone_state.specs.Zone.{ZoneKept, IsEnvelope}
 use Rattle.refinement_laws.proofs.Values.{way_is_known}
 use Rattle.refinement_laws.proofs.Shown.{found_controls}

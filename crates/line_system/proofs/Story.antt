@@ -3,24 +3,25 @@ use Rattle.std.proofs.Common.{◌≡◌, ℕ, zero, suc, ◌+◌, ◌-◌, ◌*�
 use Rattle.std.specs.Prelude.{slice_get, if◌then◌else◌}
 use Rattle.std.proofs.Math.Dec.{eqb-suc-zero}
 use Rattle.std.proofs.lemmas.List.{reverse-append, length-reverse}
+use Rattle.std.proofs.lemmas.Bool.{and_parts}
 use Rattle.std.proofs.lemmas.Bool.Decides.{nat_tests}
 use Rattle.definitions.specs.declared.event.Event.{Event}
 use Rattle.definitions.specs.declared.event.Event.TheVariants.{Train, Step, Take, Deliver}
 use Rattle.definitions.specs.declared.message.Msg.{Msg}
 use Rattle.definitions.specs.declared.outcome.Outcome.{Outcome}
-use Rattle.definitions.specs.Track.{Line, has_zone, is_actor}
+use Rattle.definitions.specs.Track.{Line, ranged, has_zone, is_actor}
 use Rattle.definitions.specs.Story.{Story, sent}
 use Rattle.definitions.specs.Safe.{IsLineOfOneZone, Kept}
 use Rattle.definitions.specs.Trace.{went, stands_for}
-use Rattle.definitions.specs.Premises.{built, too_many, premise_of, admits}
+use Rattle.definitions.specs.Premises.{ascending, built, too_many, premise_of, admits}
 use Rattle.definitions.specs.Steps.{effects, story_of, taken_most, takes_from, deliveries}
 use Rattle.definitions.specs.Zones.{zone_id}
 use Rattle.plain_state.specs.Plain.{Plain, plain_effect}
 use Rattle.plain_state.specs.Admits.{plain_built, plain_too_many, plain_premise}
-use Rattle.world_sim.specs.World.{StepFits, IsWorldOn}
+use Rattle.world_sim.specs.World.{StepFits, IsBuilt, IsWorldOn}
 use Rattle.zone_state.specs.Zone.{ZoneKept, IsZoneOn}
 use Rattle.invariant_laws.proofs.Invariant.{Invariant}
-use Rattle.step_laws.proofs.Every.{invariant_story}
+use Rattle.step_laws.proofs.Invariant_story.{invariant_story}
 use Rattle.refinement_laws.proofs.Refines.{built_is, too_many_is, premise_is, effect_is, refines_next}
 use Rattle.line_system.specs.History.{History}
 use Rattle.line_system.specs.State.{Taken, Parts, plain_of, parts_next, taken_behind, TakenInRange, EventInRange, due_of}
@@ -61,11 +62,40 @@ pub record Goes (h : History) (line : Line) (xs : List Event) (p : Parts) (u : T
   pub within : too_many (story_of h.line h.events) e ≡ false
   pub kept : premise_of h.line (story_of h.line h.events) e ≡ 0
 
+-- the same fields keep the same
+pub kept_same : (line : Line) (xs ys : List Event) (p q : Parts) (u v : Taken) (z y : ZoneKept) → ys ≡ xs → q ≡ p → v ≡ u → y ≡ z → IsKept line (reverse xs) p u z → IsKept line (reverse ys) q v y
+kept_same line xs ys p q u v z y events parts taken zone k =
+    subst (λ (es : List Event). IsKept line (reverse es) q v y) (sym events)
+    (subst (λ (r : Parts). IsKept line (reverse xs) r v y) (sym parts)
+    (subst (λ (w : Taken). IsKept line (reverse xs) p w y) (sym taken)
+    (subst (λ (x : ZoneKept). IsKept line (reverse xs) p u x) (sym zone) k)))
+
 pub reverse_next : (es : List Event) (e : Event) → reverse (es ++ e ∷ []) ≡ e ∷ reverse es
 reverse_next es e = reverse-append es (e ∷ [])
 
 abbrev as_history : Line → List Event → History
 as_history line es = record { line = line; events = es }
+
+-- an event that is built has the form that the world needs
+form_fits : (line : Line) (s : Story) (e : Event) → built line s e ≡ true → IsBuilt e
+form_fits line s (Train t long error speed kind) h = grind (arith, nat_tests)
+form_fits line s (Step ms moves) h = (and_parts (ascending 0 moves.items) _ (and_parts (ranged 1 60000 ms) _ h).1).0
+form_fits line s _ h = tt
+
+-- an event that goes, once the fields of the system are these, which are the same
+pub goes_same : (h : History) (line : Line) (xs ys : List Event) (p q : Parts) (u v : Taken) (z y : ZoneKept) (e : Event)
+    → record { line = line; events = reverse xs } ≡ h → IsKept line (reverse xs) p u z → length xs < 100000000
+    → ys ≡ xs → q ≡ p → v ≡ u → y ≡ z
+    → built h.line (story_of h.line h.events) e ≡ true → too_many (story_of h.line h.events) e ≡ false → premise_of h.line (story_of h.line h.events) e ≡ 0
+    → Goes h line ys q v y e
+goes_same h line xs ys p q u v z y e view keeps few events parts taken zone built within kept = record {
+  view = ap (λ (es : List Event). as_history line (reverse es)) events ∙ view;
+  keeps = kept_same line xs ys p q u v z y events parts taken zone keeps;
+  few = subst (λ (es : List Event). length es < 100000000) (sym events) few;
+  built = built;
+  within = within;
+  kept = kept;
+}
 
 -- a declaration that is built and within the limit fits the world, and a step its clock
 step_fits : (line : Line) (p : Plain) (e : Event) (n : ℕ) → plain_built line p e ≡ true → plain_too_many p e ≡ false → p.world.clock ≤ 60000 * n → n < 100000000 → StepFits p.world e
@@ -137,6 +167,9 @@ module _ (h : History) (line : Line) (xs : List Event) (p : Parts) (u : Taken) (
 
   pub go_fits : StepFits p.world e
   go_fits = step_fits line (plain_of p) e (length xs) go_built go_room go_clock g.few
+
+  pub go_form : IsBuilt e
+  go_form = form_fits line (story_of line (reverse xs)) e built_now
 
   pub go_range : EventInRange (plain_of p) e
   go_range = event_in_range line (story_of line (reverse xs)) (plain_of p) e g.keeps.refines (λ t. invariant_story line t (reverse xs) g.keeps.one_zone g.keeps.kept) built_now

@@ -1,5 +1,5 @@
 -- The program's state as the plain state, and which messages were taken.
-use Rattle.std.specs.Prelude.{ℕ, zero, suc, ◌-◌, List, [], ◌++◌, length, if◌then◌else◌, nat_eq, max, Option, Some, None, slice_get, ⊤}
+use Rattle.std.specs.Prelude.{ℕ, zero, suc, ◌+◌, ◌-◌, ◌≤◌, List, [], ◌++◌, length, if◌then◌else◌, nat_eq, max, Option, Some, None, slice_get, vec_len, vec_capacity, ⊤}
 use Rattle.definitions.specs.declared.event.Event.{Event}
 use Rattle.definitions.specs.declared.event.Event.TheVariants.{Take}
 use Rattle.definitions.specs.declared.message.Msg.{Msg}
@@ -22,11 +22,24 @@ pub record Parts : Type 0 where
 abbrev pub parts : State → Parts
 parts s = record { world = s.world; zone = s.zone.plain; to_zone = s.to_zone.items; to_world = s.to_world.items }
 
-abbrev pub links_of : Parts → ℕ → ℕ → List Msg
-links_of k from to =
-    if nat_eq from 0 then (if nat_eq to k.zone.id then k.to_zone else [])
-    else if nat_eq from k.zone.id then (if nat_eq to 0 then k.to_world else [])
+-- the link from an actor to another, by those from the world to the zone of this number and back
+abbrev pub link_between : ℕ → List Msg → List Msg → ℕ → ℕ → List Msg
+link_between zone to_zone to_world from to =
+    if nat_eq from 0 then (if nat_eq to zone then to_zone else [])
+    else if nat_eq from zone then (if nat_eq to 0 then to_world else [])
     else []
+
+abbrev pub links_of : Parts → ℕ → ℕ → List Msg
+links_of k from to = link_between k.zone.id k.to_zone k.to_world from to
+
+-- a message to an actor from another, by its ordinal from 1
+abbrev pub message_of : Parts → ℕ → ℕ → ℕ → Option Msg
+message_of k to from number = slice_get (links_of k from to) (number - 1)
+
+-- room on the links for the messages of one step
+pub record HasRoom (s : State) : Type 0 where
+  pub to_zone : vec_len s.to_zone + 1100 ≤ vec_capacity s.to_zone
+  pub to_world : vec_len s.to_world + 1100 ≤ vec_capacity s.to_world
 
 -- the plain state that this is: its one zone stands for each zone of the line
 abbrev pub plain_of : Parts → Plain

@@ -4,7 +4,7 @@
 //! lines. What a system holds besides its history is what the history leaves, so that no answer reads the history again.
 #![tactic(auto)]
 
-pub mod state;
+mod state;
 pub mod system;
 
 pub use system::{Answer, System};

@@ -1,22 +1,22 @@
 //! The state that a script leaves: the world, the zone, and the messages that went out on the links between them.
-ghost use Rattle.std.specs.Prelude.{◌≡◌, ◌++◌, ◌-◌, ◌&&◌, [], true, not, max, length, nat_eq, nat_lt, nat_le, is_some, slice_get, IfOk, OnOk};
+ghost use Rattle.std.specs.Prelude.{◌≡◌, ◌<◌, ◌≤◌, ◌+◌, ◌++◌, ◌-◌, ◌&&◌, [], true, not, max, length, nat_eq, nat_lt, nat_le, is_some, slice_get, vec_len, vec_capacity, IfOk, OnOk};
 ghost use Rattle.std.specs.List.{list_all};
 ghost use Rattle.definitions.specs.Track.{ranged, is_actor};
 ghost use Rattle.definitions.specs.Premises.{on_line, ascending};
 ghost use Rattle.definitions.specs.Story.{to_actor};
 ghost use Rattle.definitions.specs.Steps.{nothing};
-ghost use Rattle.plain_state.specs.World.{find_train, world_event_effect, world_event_next, world_take_effect, world_take_next};
-ghost use Rattle.plain_state.specs.Zone.{zone_take_effect, zone_take_next};
+ghost use Rattle.plain_state.specs.World.{find_train, world_event_effect, world_event_next};
 ghost use Rattle.plain_state.specs.Plain.{world_start, zone_start, taken_effect, plain_effect};
 ghost use Rattle.plain_state.specs.Admits.{plain_built, plain_too_many, plain_takes, plain_premise, is_known, world_premise};
 ghost use Rattle.world_sim.specs.World.{StepFits, IsBuilt, IsWorldOn};
 ghost use Rattle.zone_state.specs.Zone.{IsZoneOn, InRange};
-ghost use Rattle.line_system.specs.State.{plain, parts, world_moved, zone_moved, parts_taken, parts_next, taken, taken_start, taken_with, taken_behind, TakenInRange, EventInRange, due_of};
+ghost use Rattle.line_system.specs.State.{plain, parts, link_between, links_of, message_of, world_moved, parts_taken, parts_next, taken, taken_start, taken_with, taken_behind, HasRoom, TakenInRange, EventInRange, due_of};
 
 use definitions::event::Event;
 use definitions::message::Msg;
 use line_map::Line;
 use msg_codec::Outs;
+use msg_codec::outs::ROOM;
 use std::alloc::{AllocError, Global};
 use track_points::{DirSeg, TrainId, ZoneId};
 use world_sim::{Premise, World};
@@ -54,41 +54,51 @@ fn are_on_line(line: &Line, steps: &[DirSeg]) -> bool
     steps.iter().all(|step| is_on_line(line, *step))
 }
 
-/// Puts those of some messages onto the link to an actor that go to it.
-#[tactic(auto, unfolding(definitions::specs::Story::to_actor))]
-fn post(link: &mut Vec<Msg>, actor: u8, messages: &[(u8, Msg)]) -> Result<(), AllocError>
-    ensures { OnOk result (link.new.items ≡ link.old.items ++ to_actor actor messages.now) }
+/// Puts those of some messages onto the link to an actor that go to it. The link has room for them.
+fn post(link: &mut Vec<Msg>, actor: u8, messages: &[(u8, Msg)])
+    requires { vec_len link.old + length messages.now ≤ vec_capacity link.old }
+    ensures { link.new.items ≡ link.old.items ++ to_actor actor messages.now }
 {
-    match messages {
-        [] => Ok(()),
-        [(receiver, message), rest @ ..] => {
-            if *receiver == actor {
-                link.push(message.copy())?;
-            }
-            post(link, actor, rest)
+    for (receiver, message) in messages {
+        if *receiver == actor {
+            link.push_reserved(message.copy());
         }
     }
 }
 
-/// A message of a link, by its ordinal from 1.
-fn message_at(messages: &[Msg], number: u32) -> Option<Msg>
-    ensures { result ≡ slice_get messages.now (number - 1) }
+/// The messages that went out on the link from an actor to another, by those to the zone and those to the world.
+fn link<'a>(zone: u8, to_zone: &'a [Msg], to_world: &'a [Msg], from: u8, to: u8) -> &'a [Msg]
+    ensures { result.now ≡ link_between zone to_zone.now to_world.now from to }
 {
-    match messages.get(number.saturating_sub(1) as usize) {
-        Some(message) => Some(message.copy()),
-        None => None,
+    if from == 0 {
+        if to == zone { to_zone } else { &[] }
+    } else if from == zone {
+        if to == 0 { to_world } else { &[] }
+    } else {
+        &[]
     }
 }
 
-/// Whether trains ascend.
-#[tactic(auto, unfolding(definitions::specs::Premises::ascending))]
+/// A message of a link, by its ordinal from 1.
+fn message_at(messages: &[Msg], number: u32) -> &Msg
+    requires { nat_lt 0 number && nat_le number (length messages.now) ≡ true }
+    ensures { slice_get messages.now (number - 1) ≡ Some result.now }
+{
+    &messages[number as usize - 1]
+}
+
+/// Whether trains ascend, the first of them above a number.
 fn are_ascending(train: u16, moves: &[(TrainId, u32)]) -> bool
     ensures { result ≡ ascending train moves.now }
 {
-    match moves {
-        [] => true,
-        [(next, _), rest @ ..] => train < next.0 && are_ascending(next.0, rest),
+    let mut last = train;
+    for (next, _) in moves {
+        if next.0 <= last {
+            return false;
+        }
+        last = next.0;
     }
+    true
 }
 
 /// What a script leaves.
@@ -135,25 +145,28 @@ impl State {
         &self.zone
     }
 
+    /// Reserves room for the messages of one step. It changes nothing else.
+    pub fn reserve(&mut self) -> Result<(), AllocError>
+        ensures parts { parts self.new ≡ parts self.old }
+        ensures taken { taken self.new ≡ taken self.old }
+        ensures zone { self.new.zone ≡ self.old.zone }
+        ensures room { OnOk result (HasRoom self.new) }
+    {
+        self.to_zone.reserve(ROOM)?;
+        self.to_world.reserve(ROOM)
+    }
+
     /// The messages that went out on the link from an actor to another.
     fn link(&self, from: u8, to: u8) -> &[Msg]
         ensures { result.now ≡ (plain self.now).links from to }
     {
-        if from == 0 {
-            if to == self.zone.id() {
-                self.to_zone.as_slice()
-            } else {
-                &[]
-            }
-        } else if from == self.zone.id() {
-            if to == 0 {
-                self.to_world.as_slice()
-            } else {
-                &[]
-            }
-        } else {
-            &[]
-        }
+        link(
+            self.zone.id(),
+            self.to_zone.as_slice(),
+            self.to_world.as_slice(),
+            from,
+            to,
+        )
     }
 
     fn is_declared(&self, train: TrainId) -> bool
@@ -231,102 +244,98 @@ impl State {
     }
 
     /// The world takes its own step.
-    fn world_steps(&mut self, line: &Line, event: &Event, outs: &mut Outs) -> Result<(), AllocError>
+    fn world_steps(&mut self, line: &Line, event: &Event, outs: &mut Outs)
         requires empty { outs.old ≡ nothing }
         requires world_on { IsWorldOn line.now self.old.world }
         requires fits { StepFits self.old.world event.now }
         requires built { IsBuilt event.now }
         requires kept { world_premise self.old.world event.now ≡ 0 }
-        ensures gives { OnOk result (outs.new ≡ world_event_effect line.now (parts self.old).world event.now) }
-        ensures next { OnOk result (parts self.new ≡ world_moved (parts self.old) (world_event_next line.now (parts self.old).world event.now) (world_event_effect line.now (parts self.old).world event.now)) }
-        ensures same { OnOk result (self.new.zone ≡ self.old.zone) }
-        ensures taken { OnOk result (taken self.new ≡ taken self.old) }
-        ensures world_on { OnOk result (IsWorldOn line.now self.new.world) }
+        requires room { HasRoom self.old }
+        ensures gives { outs.new ≡ world_event_effect line.now (parts self.old).world event.now }
+        ensures next { parts self.new ≡ world_moved (parts self.old) (world_event_next line.now (parts self.old).world event.now) (world_event_effect line.now (parts self.old).world event.now) }
+        ensures same { self.new.zone ≡ self.old.zone }
+        ensures taken { taken self.new ≡ taken self.old }
+        ensures world_on { IsWorldOn line.now self.new.world }
     {
         self.world.step(line, event, outs);
-        post(&mut self.to_zone, self.zone.id(), outs.messages())
+        post(&mut self.to_zone, self.zone.id(), outs.messages());
     }
 
-    /// The world takes a message, by its ordinal.
-    fn world_takes(
-        &mut self,
-        line: &Line,
-        from: u8,
-        number: u32,
-        message: &Msg,
-        outs: &mut Outs,
-    ) -> Result<(), AllocError>
+    /// The world takes a message of the link from an actor, by its ordinal from 1.
+    fn world_takes(&mut self, line: &Line, from: u8, number: u32, outs: &mut Outs)
         requires empty { outs.old ≡ nothing }
         requires world_on { IsWorldOn line.now self.old.world }
-        ensures gives { OnOk result (outs.new ≡ world_take_effect line.now (parts self.old).world from message.now) }
-        ensures next { OnOk result (parts self.new ≡ world_moved (parts self.old) (world_take_next line.now (parts self.old).world from message.now) (world_take_effect line.now (parts self.old).world from message.now)) }
-        ensures same { OnOk result (self.new.zone ≡ self.old.zone) }
-        ensures taken { OnOk result (taken self.new ≡ record { by_zone = self.old.taken_by_zone; by_world = max number self.old.taken_by_world }) }
-        ensures world_on { OnOk result (IsWorldOn line.now self.new.world) }
+        requires there { nat_lt 0 number && nat_le number (length (links_of (parts self.old) from 0)) ≡ true }
+        requires room { HasRoom self.old }
+        ensures gives { outs.new ≡ taken_effect line.now (plain self.old) 0 from (message_of (parts self.old) 0 from number) }
+        ensures next { parts self.new ≡ parts_taken line.now (parts self.old) 0 from (message_of (parts self.old) 0 from number) }
+        ensures same { self.new.zone ≡ self.old.zone }
+        ensures taken { taken self.new ≡ record { by_zone = self.old.taken_by_zone; by_world = max number self.old.taken_by_world } }
+        ensures world_on { IsWorldOn line.now self.new.world }
     {
+        let sent = link(
+            self.zone.id(),
+            self.to_zone.as_slice(),
+            self.to_world.as_slice(),
+            from,
+            0,
+        );
+        let message = message_at(sent, number);
         self.world.take(line, from, message, outs);
         self.taken_by_world = number.max(self.taken_by_world);
-        post(&mut self.to_zone, self.zone.id(), outs.messages())
+        post(&mut self.to_zone, self.zone.id(), outs.messages());
     }
 
-    /// The zone takes a message, by its ordinal.
-    fn zone_takes(
-        &mut self,
-        line: &Line,
-        from: u8,
-        number: u32,
-        message: &Msg,
-        outs: &mut Outs,
-    ) -> Result<(), AllocError>
+    /// The zone takes a message of the link to it from an actor, by its ordinal from 1.
+    fn zone_takes(&mut self, line: &Line, to: u8, from: u8, number: u32, outs: &mut Outs)
         requires empty { outs.old ≡ nothing }
         requires on_line { IsZoneOn line.now self.old.zone }
-        requires range { InRange message.now }
-        ensures gives { OnOk result (outs.new ≡ zone_take_effect line.now (parts self.old).zone from message.now) }
-        ensures next { OnOk result (parts self.new ≡ zone_moved (parts self.old) (zone_take_next line.now (parts self.old).zone from message.now) (zone_take_effect line.now (parts self.old).zone from message.now)) }
-        ensures on_line { OnOk result (IsZoneOn line.now self.new.zone) }
-        ensures taken { OnOk result (taken self.new ≡ record { by_zone = max number self.old.taken_by_zone; by_world = self.old.taken_by_world }) }
-        ensures same { OnOk result (self.new.world ≡ self.old.world) }
+        requires zone { 0 < to }
+        requires range { TakenInRange (message_of (parts self.old) to from number) }
+        requires there { nat_lt 0 number && nat_le number (length (links_of (parts self.old) from to)) ≡ true }
+        requires room { HasRoom self.old }
+        ensures gives { outs.new ≡ taken_effect line.now (plain self.old) to from (message_of (parts self.old) to from number) }
+        ensures next { parts self.new ≡ parts_taken line.now (parts self.old) to from (message_of (parts self.old) to from number) }
+        ensures on_line { IsZoneOn line.now self.new.zone }
+        ensures taken { taken self.new ≡ record { by_zone = max number self.old.taken_by_zone; by_world = self.old.taken_by_world } }
+        ensures same { self.new.world ≡ self.old.world }
     {
+        let sent = link(
+            self.zone.id(),
+            self.to_zone.as_slice(),
+            self.to_world.as_slice(),
+            from,
+            to,
+        );
+        let message = message_at(sent, number);
         self.zone.step(line, message, from, outs);
         self.taken_by_zone = number.max(self.taken_by_zone);
-        post(&mut self.to_world, 0, outs.messages())
+        post(&mut self.to_world, 0, outs.messages());
     }
 
     /// An actor takes a message of the link from another, by its ordinal from 1.
-    #[tactic(auto, using(crate::proofs::Steps::zone_effect, crate::proofs::Steps::zone_next))]
-    fn take(
-        &mut self,
-        line: &Line,
-        to: u8,
-        from: u8,
-        number: u32,
-        outs: &mut Outs,
-    ) -> Result<(), AllocError>
+    fn take(&mut self, line: &Line, to: u8, from: u8, number: u32, outs: &mut Outs)
         requires empty { outs.old ≡ nothing }
         requires on_line { IsZoneOn line.now self.old.zone }
         requires world_on { IsWorldOn line.now self.old.world }
-        requires range { TakenInRange (slice_get ((plain self.old).links from to) (number - 1)) }
-        requires there { nat_lt 0 number && nat_le number (length ((plain self.old).links from to)) ≡ true }
-        ensures gives { OnOk result (outs.new ≡ taken_effect line.now (plain self.old) to from (slice_get ((plain self.old).links from to) (number - 1))) }
-        ensures next { OnOk result (parts self.new ≡ parts_taken line.now (parts self.old) to from (slice_get ((plain self.old).links from to) (number - 1))) }
-        ensures taken { OnOk result (taken self.new ≡ taken_with to number (taken self.old)) }
-        ensures on_line { OnOk result (IsZoneOn line.now self.new.zone) }
-        ensures world_on { OnOk result (IsWorldOn line.now self.new.world) }
+        requires range { TakenInRange (message_of (parts self.old) to from number) }
+        requires there { nat_lt 0 number && nat_le number (length (links_of (parts self.old) from to)) ≡ true }
+        requires room { HasRoom self.old }
+        ensures gives { outs.new ≡ taken_effect line.now (plain self.old) to from (message_of (parts self.old) to from number) }
+        ensures next { parts self.new ≡ parts_taken line.now (parts self.old) to from (message_of (parts self.old) to from number) }
+        ensures taken { taken self.new ≡ taken_with to number (taken self.old) }
+        ensures on_line { IsZoneOn line.now self.new.zone }
+        ensures world_on { IsWorldOn line.now self.new.world }
     {
-        match message_at(self.link(from, to), number) {
-            None => unreachable!(),
-            Some(message) => {
-                if to == 0 {
-                    self.world_takes(line, from, number, &message, outs)
-                } else {
-                    self.zone_takes(line, from, number, &message, outs)
-                }
-            }
+        if to == 0 {
+            self.world_takes(line, from, number, outs);
+        } else {
+            self.zone_takes(line, to, from, number, outs);
         }
     }
 
-    /// One event more that is no delivery, and what it gives. Where there is no memory for it, the state is to be given up.
-    pub fn step(&mut self, line: &Line, event: &Event, outs: &mut Outs) -> Result<(), AllocError>
+    /// One event more that is no delivery, and what it gives. It takes no memory: the links have room for its messages.
+    pub fn step(&mut self, line: &Line, event: &Event, outs: &mut Outs)
         requires empty { outs.old ≡ nothing }
         requires on_line { IsZoneOn line.now self.old.zone }
         requires world_on { IsWorldOn line.now self.old.world }
@@ -334,11 +343,12 @@ impl State {
         requires built { IsBuilt event.now }
         requires kept { plain_premise (plain self.old) event.now ≡ 0 }
         requires range { EventInRange (plain self.old) event.now }
-        ensures gives { OnOk result (outs.new ≡ plain_effect line.now (plain self.old) event.now) }
-        ensures next { OnOk result (parts self.new ≡ parts_next line.now (parts self.old) event.now) }
-        ensures taken { OnOk result (taken self.new ≡ taken_behind event.now (taken self.old)) }
-        ensures on_line { OnOk result (IsZoneOn line.now self.new.zone) }
-        ensures world_on { OnOk result (IsWorldOn line.now self.new.world) }
+        requires room { HasRoom self.old }
+        ensures gives { outs.new ≡ plain_effect line.now (plain self.old) event.now }
+        ensures next { parts self.new ≡ parts_next line.now (parts self.old) event.now }
+        ensures taken { taken self.new ≡ taken_behind event.now (taken self.old) }
+        ensures on_line { IsZoneOn line.now self.new.zone }
+        ensures world_on { IsWorldOn line.now self.new.world }
     {
         match event {
             Event::Take(to, from, number) => self.take(line, *to, *from, *number, outs),

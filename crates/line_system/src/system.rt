@@ -1,12 +1,13 @@
 //! The system of a line: the history of its script, and what that leaves.
-ghost use Rattle.std.specs.Prelude.{◌≡◌, ◌≤◌, ◌++◌, ◌∷◌, [], true, false, count_by, is_some, length, reverse, IfOk, IfSome, OnOk};
+ghost use Rattle.std.specs.Prelude.{◌≡◌, ◌+◌, ◌-◌, ◌<◌, ◌≤◌, ◌++◌, ◌∷◌, [], true, false, count_by, is_some, length, reverse, vec_len, vec_capacity, IfOk, IfSome, OnErr, OnOk};
 ghost use Rattle.definitions.specs.Rules.{is_line, is_any_zone};
 ghost use Rattle.definitions.specs.Premises.{built, too_many, premise_of};
 ghost use Rattle.definitions.specs.Track.{is_actor, has_zone};
-ghost use Rattle.definitions.specs.Steps.{nothing, effects, story_of, deliveries};
+ghost use Rattle.definitions.specs.Steps.{effects, story_of, takes_from, deliveries};
 ghost use Rattle.definitions.specs.Trace.{went, stands_for};
 ghost use Rattle.definitions.specs.Zones.{zone_id};
 ghost use Rattle.line_system.specs.History.{History};
+ghost use Rattle.line_system.specs.State.{parts, taken, HasRoom};
 ghost use Rattle.line_system.specs.System.{Answers};
 ghost use Rattle.line_system.specs.Shows.{ShowsNotions, ShowsWorld};
 
@@ -56,7 +57,7 @@ impl Model for System {
 }
 
 /// What the system answers to an event.
-#[derive(Drop)]
+#[derive(Clone, Copy)]
 pub enum Answer {
     /// It names what is not declared or declares what is, or its form is not built. The script ends.
     Unbuilt,
@@ -65,23 +66,23 @@ pub enum Answer {
     /// It breaks the premise of this number, the least of those that it breaks. The script ends.
     Premise(u8),
     /// It goes. The system has it in its history, a delivery as its takes.
-    Goes(System),
+    Goes,
 }
 
 /// A history never grows to this: its events would take 200 GB. It is a want of memory.
 const MOST_EVENTS: usize = 100_000_000;
 
-/// Adds outcome lines.
-fn append(lines: &mut Vec<Outcome>, more: &[Outcome]) -> Result<(), AllocError>
-    ensures { OnOk result (lines.new.items ≡ lines.old.items ++ more.now) }
+/// Reserves room for one event more and for the messages of its step. It changes nothing else.
+fn make_room(events: &mut Vec<Event>, state: &mut State) -> Result<(), AllocError>
+    ensures events { events.new.items ≡ events.old.items }
+    ensures parts { parts state.new ≡ parts state.old }
+    ensures taken { taken state.new ≡ taken state.old }
+    ensures zone { state.new.zone ≡ state.old.zone }
+    ensures event { OnOk result (vec_len events.new < vec_capacity events.new) }
+    ensures messages { OnOk result (HasRoom state.new) }
 {
-    match more {
-        [] => Ok(()),
-        [first, rest @ ..] => {
-            lines.push(*first)?;
-            append(lines, rest)
-        }
-    }
+    events.reserve(1)?;
+    state.reserve()
 }
 
 impl System {
@@ -156,101 +157,115 @@ impl System {
         self.state.premise(&self.line, event)
     }
 
-    /// An event that goes and is no delivery. Its outcome lines are added to `lines`; `outs` is room for what it gives.
-    fn go(
-        self,
-        event: Event,
-        outs: &mut Outs,
-        lines: &mut Vec<Outcome>,
-    ) -> Result<System, AllocError>
-        requires built { built self.line (story_of self.line self.events) event ≡ true }
-        requires within { too_many (story_of self.line self.events) event ≡ false }
-        requires kept { premise_of self.line (story_of self.line self.events) event ≡ 0 }
-        ensures history { IfOk result (λ s. s ≡ record { line = self.line; events = event ∷ self.events }) }
-        ensures lines { OnOk result (lines.new.items ≡ lines.old.items ++ (effects self.line (story_of self.line self.events) event).lines) }
+    /// Puts an event that goes and is no delivery into the history; `outs` has what it gives. Room is made first.
+    fn step(&mut self, event: &Event, outs: &mut Outs) -> Result<(), AllocError>
+        requires built { built self.old.line (story_of self.old.line self.old.events) event.now ≡ true }
+        requires within { too_many (story_of self.old.line self.old.events) event.now ≡ false }
+        requires kept { premise_of self.old.line (story_of self.old.line self.old.events) event.now ≡ 0 }
+        ensures history { OnOk result (self.new ≡ record { line = self.old.line; events = event.now ∷ self.old.events }) }
+        ensures lines { OnOk result (outs.new.lines ≡ (effects self.old.line (story_of self.old.line self.old.events) event.now).lines) }
+        ensures stays { OnErr result (self.new ≡ self.old) }
     {
         if self.events.len() >= MOST_EVENTS {
             return Err(AllocError);
         }
-        let System {
-            line,
-            mut events,
-            mut state,
-        } = self;
+        make_room(&mut self.events, &mut self.state)?;
         outs.clear();
-        state.step(&line, &event, outs)?;
-        append(lines, outs.lines())?;
-        events.push(event)?;
-        Ok(System {
-            line,
-            events,
-            state,
-        })
+        self.state.step(&self.line, event, outs);
+        self.events.push_reserved(event.copy());
+        Ok(())
     }
 
-    /// A delivery to an actor of the line: the takes that it stands for, one behind the other.
+    /// An event that goes and is no delivery. Its outcome lines are added to `lines`; `outs` is room for what it gives.
+    fn go(
+        &mut self,
+        event: &Event,
+        outs: &mut Outs,
+        lines: &mut Vec<Outcome>,
+    ) -> Result<(), AllocError>
+        requires built { built self.old.line (story_of self.old.line self.old.events) event.now ≡ true }
+        requires within { too_many (story_of self.old.line self.old.events) event.now ≡ false }
+        requires kept { premise_of self.old.line (story_of self.old.line self.old.events) event.now ≡ 0 }
+        ensures history { OnOk result (self.new ≡ record { line = self.old.line; events = event.now ∷ self.old.events }) }
+        ensures lines { OnOk result (lines.new.items ≡ lines.old.items ++ (effects self.old.line (story_of self.old.line self.old.events) event.now).lines) }
+    {
+        self.step(event, outs)?;
+        lines.extend_from_slice(outs.lines())?;
+        Ok(())
+    }
+
+    /// What is due to an actor of the line: its sender, the greatest ordinal that was taken, and how many were sent.
+    fn due(&self, to: u8) -> (u8, usize, usize)
+        requires { is_actor self.now.line to ≡ true }
+        ensures { deliveries self.now.line (story_of self.now.line self.now.events) to ≡ takes_from to result.0 (result.1 + 1) (result.2 - result.1) }
+    {
+        self.state.due(to)
+    }
+
+    /// A delivery to an actor of the line: the takes that it stands for, one after the other.
     fn deliver(
-        self,
+        &mut self,
         to: u8,
         outs: &mut Outs,
         lines: &mut Vec<Outcome>,
-    ) -> Result<System, AllocError>
-        requires { is_actor self.line to ≡ true }
-        ensures history { IfOk result (λ s. s ≡ record { line = self.line; events = (went self.line self.events (deliveries self.line (story_of self.line self.events) to)).events }) }
-        ensures lines { OnOk result (lines.new.items ≡ lines.old.items ++ (went self.line self.events (deliveries self.line (story_of self.line self.events) to)).lines) }
+    ) -> Result<(), AllocError>
+        requires { is_actor self.old.line to ≡ true }
+        ensures history { OnOk result (self.new ≡ record { line = self.old.line; events = (went self.old.line self.old.events (deliveries self.old.line (story_of self.old.line self.old.events) to)).events }) }
+        ensures lines { OnOk result (lines.new.items ≡ lines.old.items ++ (went self.old.line self.old.events (deliveries self.old.line (story_of self.old.line self.old.events) to)).lines) }
     {
-        let (from, taken, sent) = self.state.due(to);
+        let (from, taken, sent) = self.due(to);
         if sent >= MOST_EVENTS {
             return Err(AllocError);
         }
-        let mut system = self;
         for number in taken..sent {
             let take = Event::Take(to, from, number as u32 + 1);
-            system = system.go(take, outs, lines)?;
+            self.go(&take, outs, lines)?;
         }
-        Ok(system)
+        Ok(())
     }
 
     /// An event that goes, a delivery as the takes that it stands for. Its outcome lines are added to `lines`; `outs` is room
     /// for what one step gives.
     fn go_on(
-        self,
-        event: Event,
+        &mut self,
+        event: &Event,
         outs: &mut Outs,
         lines: &mut Vec<Outcome>,
-    ) -> Result<System, AllocError>
-        requires built { built self.line (story_of self.line self.events) event ≡ true }
-        requires within { too_many (story_of self.line self.events) event ≡ false }
-        requires kept { premise_of self.line (story_of self.line self.events) event ≡ 0 }
-        ensures history { IfOk result (λ s. s ≡ record { line = self.line; events = (went self.line self.events (stands_for self.line (story_of self.line self.events) event)).events }) }
-        ensures lines { OnOk result (lines.new.items ≡ lines.old.items ++ (went self.line self.events (stands_for self.line (story_of self.line self.events) event)).lines) }
+    ) -> Result<(), AllocError>
+        requires built { built self.old.line (story_of self.old.line self.old.events) event.now ≡ true }
+        requires within { too_many (story_of self.old.line self.old.events) event.now ≡ false }
+        requires kept { premise_of self.old.line (story_of self.old.line self.old.events) event.now ≡ 0 }
+        ensures history { OnOk result (self.new ≡ record { line = self.old.line; events = (went self.old.line self.old.events (stands_for self.old.line (story_of self.old.line self.old.events) event.now)).events }) }
+        ensures lines { OnOk result (lines.new.items ≡ lines.old.items ++ (went self.old.line self.old.events (stands_for self.old.line (story_of self.old.line self.old.events) event.now)).lines) }
     {
         match event {
-            Event::Deliver(to) => self.deliver(to, outs, lines),
+            Event::Deliver(to) => self.deliver(*to, outs, lines),
             _ => self.go(event, outs, lines),
         }
     }
 
-    /// Answers an event. Its outcome lines are added to `lines`; a refused event adds none. `outs` is room for what one step
-    /// gives. Where there is no memory for it, the system is given up.
+    /// Answers an event. Its outcome lines are added to `lines`; a refused event adds none, and leaves the system as it was.
+    /// `outs` is room for what one step gives. Where there is no memory for it, the system is to be given up: a delivery may
+    /// have made some of its takes.
     pub fn read(
-        self,
-        event: Event,
+        &mut self,
+        event: &Event,
         outs: &mut Outs,
         lines: &mut Vec<Outcome>,
     ) -> Result<Answer, AllocError>
-        ensures { IfOk result (λ a. Answers self event a lines.old.items lines.new.items) }
+        ensures { IfOk result (λ a. Answers self.old event.now a self.new lines.old.items lines.new.items) }
     {
-        if !self.is_built(&event) {
+        if !self.is_built(event) {
             return Ok(Answer::Unbuilt);
         }
-        if self.is_too_many(&event) {
+        if self.is_too_many(event) {
             return Ok(Answer::TooMany);
         }
-        let premise = self.premise(&event);
+        let premise = self.premise(event);
         if premise != 0 {
             return Ok(Answer::Premise(premise));
         }
-        Ok(Answer::Goes(self.go_on(event, outs, lines)?))
+        self.go_on(event, outs, lines)?;
+        Ok(Answer::Goes)
     }
 }

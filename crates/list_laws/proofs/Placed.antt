@@ -10,7 +10,7 @@ unfoldable pub placed : ℕ → List ℕ → List ℕ
 placed t [] = t ∷ []
 placed t (u ∷ us) = if nat_lt t u then t ∷ u ∷ us else u ∷ placed t us
 
--- behind lesser ones it is the last
+-- after lesser ones it is the last
 pub placed_last : (u : ℕ) (xs : List ℕ) → list_all (λ x. nat_lt x u) xs ≡ true → placed u xs ≡ xs ++ u ∷ []
 unfolding placed
 placed_last u [] h = refl

@@ -1,5 +1,5 @@
 //! The room for what one step gives.
-ghost use Rattle.std.specs.Prelude.{◌≡◌, ◌<◌, ◌++◌, ◌∷◌, [], length, IfOk};
+ghost use Rattle.std.specs.Prelude.{◌≡◌, ◌<◌, ◌≤◌, ◌++◌, ◌∷◌, [], length, IfOk};
 ghost use Rattle.definitions.specs.Steps.{Effect, nothing};
 
 use definitions::message::Msg;
@@ -19,14 +19,14 @@ pub struct Outs {
 }
 
 impl Model for Outs {
-    ghost use Rattle.std.specs.Prelude.{◌≤◌, vec_capacity};
+    ghost use Rattle.std.specs.Prelude.{◌≤◌, length, vec_capacity};
     ghost use Rattle.definitions.specs.Steps.{Effect};
 
     ghost Value = { Effect };
 
     ghost view = { λ o. record { issued = o.messages.items; lines = o.lines.items } };
 
-    ghost invariant = { λ o. (1100 ≤ vec_capacity o.messages) × (1100 ≤ vec_capacity o.lines) };
+    ghost invariant = { λ o. (1100 ≤ vec_capacity o.messages) × (1100 ≤ vec_capacity o.lines) × (length o.messages.items ≤ 1100) };
 }
 
 impl Outs {
@@ -66,7 +66,8 @@ impl Outs {
 
     /// The messages, in order, each beside the actor to which it goes.
     pub fn messages(&self) -> &[(u8, Msg)]
-        ensures { result.now ≡ self.now.issued }
+        ensures value { result.now ≡ self.now.issued }
+        ensures few { length result.now ≤ 1100 }
     {
         self.messages.as_slice()
     }

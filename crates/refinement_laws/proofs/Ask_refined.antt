@@ -40,15 +40,15 @@ use Rattle.invariant_laws.proofs.One_route.{path_parts, route_reaches, last_end,
 use Rattle.front_laws.proofs.Route_goes_on.{route_goes_on}
 use Rattle.front_laws.proofs.Front_numbers.{grown_to}
 use Rattle.front_laws.proofs.Front_ends.{ends_grown}
-use Rattle.front_laws.proofs.Unshrunk.{counted_unanswered}
+use Rattle.front_laws.proofs.Account_moves.{counted_unanswered}
 use Rattle.plain_state.proofs.Trains.{mapped, found_changed, found_other, ids_change, distinct_change}
 use Rattle.refinement_laws.proofs.Zone_values.{Grown}
 use Rattle.refinement_laws.proofs.Way_of.{way_of, way_before}
 use Rattle.refinement_laws.proofs.Way_marks.{way_number}
-use Rattle.refinement_laws.proofs.Heeded.{way_steps}
+use Rattle.refinement_laws.proofs.Acts_on_sent.{way_steps}
 use Rattle.refinement_laws.proofs.Kept_train.{kept_train}
-use Rattle.refinement_laws.proofs.Longer.{kept_lengthened, route_kept, route_steps}
-use Rattle.refinement_laws.proofs.Unissued.{end_same}
+use Rattle.refinement_laws.proofs.Kept_lengthened.{kept_lengthened, route_kept, route_steps}
+use Rattle.refinement_laws.proofs.World_controls.{end_same}
 use Rattle.refinement_laws.proofs.Zone_moves.{zone_made, zone_heads, ZoneMoves}
 use Rattle.refinement_laws.proofs.Zone_behind.{grown_is, now_is, acts, controlled_still, report_unused, steps_same, zone_silent}
 use Rattle.event_laws.proofs.Known_trains.{known_still}
@@ -211,7 +211,7 @@ module _ (line : Line) (z number : ℕ) (u : TrainId) (time : ℕ) (steps : Arra
           let few = (path_parts line a.path given_is.authority.fits).few in
           omega (arith, r, n, m, few)
 
-    -- the trains behind it
+    -- the trains after it
     pub ask_moves : ((v : ℕ) → Invariant line v (zone_made z number ask_message given ∷ s)) → (p : Plain) (ways : List Controlled) → Refines line s p → Grown line s (now_with (zone_id line) s ask_message) ways
         → ZoneMoves line s (zone_made z number ask_message given) (change_controlled u.0 (lengthened (seg_len line) steps.items d) ways)
     ask_moves after p ways k g =

@@ -32,9 +32,9 @@ use Rattle.refinement_laws.proofs.World_trains.{find_change, find_other, length_
 use Rattle.plain_state.proofs.Trains.{mapped}
 use Rattle.event_laws.proofs.Still.{head_same, heads_same, journey_still, facts_still, entry_still, as_many, unasked_same, off_same, authorized_same, clock_still}
 use Rattle.refinement_laws.proofs.World_moves.{world_same, world_refined}
-use Rattle.refinement_laws.proofs.Limits.{off_limit}
+use Rattle.refinement_laws.proofs.Limit_same.{off_limit}
 use Rattle.refinement_laws.proofs.Head_on.{head_on}
-use Rattle.refinement_laws.proofs.Heeded.{new_ahead}
+use Rattle.refinement_laws.proofs.Acts_on_sent.{new_ahead}
 use Rattle.refinement_laws.proofs.World_steps.{still_refined}
 
 abbrev pub take_transition : ℕ → ℕ → ℕ → Msg → Effect → Transition

@@ -17,7 +17,7 @@ use Rattle.plain_state.specs.Refinement.{Refines}
 use Rattle.refinement_laws.proofs.One_zone.{zone_positive, zone_most, zone_declared_there, link_to_zone, link_to_world}
 use Rattle.invariant_laws.proofs.One_zone.{actor_zone}
 
--- some numbers, one behind the other
+-- some numbers, one after the other
 unfoldable range : ℕ → ℕ → List ℕ
 range n zero = []
 range n (suc m) = n ∷ range (suc n) m

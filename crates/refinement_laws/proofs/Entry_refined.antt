@@ -31,15 +31,15 @@ use Rattle.event_laws.proofs.Controls.{controls_knows, controls_same, controls_n
 use Rattle.invariant_laws.proofs.Invariant.{end_read, AuthIs, Invariant}
 use Rattle.invariant_laws.proofs.One_route.{last_end}
 use Rattle.event_laws.proofs.Entries.{counted_else}
-use Rattle.front_laws.proofs.Front_entry.{known_long}
+use Rattle.front_laws.proofs.Entry_fronts.{known_long}
 use Rattle.front_laws.proofs.Front_ends.{ends_entered}
 use Rattle.plain_state.proofs.Trains.{mapped, found_placed, ids_placed, distinct_placed}
 use Rattle.event_laws.proofs.Known_trains.{known_more}
 use Rattle.refinement_laws.proofs.Zone_values.{Grown}
-use Rattle.refinement_laws.proofs.Heeded.{way_steps}
+use Rattle.refinement_laws.proofs.Acts_on_sent.{way_steps}
 use Rattle.refinement_laws.proofs.Kept_train.{kept_train}
-use Rattle.refinement_laws.proofs.Longer.{route_kept, route_steps}
-use Rattle.refinement_laws.proofs.Unissued.{end_same}
+use Rattle.refinement_laws.proofs.Kept_lengthened.{route_kept, route_steps}
+use Rattle.refinement_laws.proofs.World_controls.{end_same}
 use Rattle.refinement_laws.proofs.Zone_idle.{no_train}
 use Rattle.refinement_laws.proofs.Zone_moves.{zone_made, zone_heads, ZoneMoves}
 use Rattle.refinement_laws.proofs.Zone_behind.{steps_same, zone_silent}

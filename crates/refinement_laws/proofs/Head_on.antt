@@ -20,7 +20,7 @@ use Rattle.way_laws.proofs.Cut.{cut_front, total_append}
 use Rattle.way_laws.proofs.Cuts.{cut_cut, cut_longer}
 use Rattle.invariant_laws.proofs.Invariant.{step_begin, AuthorityIs, Invariant}
 use Rattle.invariant_laws.proofs.One_route.{OneRoute, one_route}
-use Rattle.front_laws.proofs.Heads.{place_on, head_place, head_on_track}
+use Rattle.front_laws.proofs.Head_place.{place_on, head_place, head_on_track}
 
 -- Places of a list.
 
@@ -51,7 +51,7 @@ pub record HeadOn (line : Line) (t : ℕ) (s : Story) (a : Authority) : Type 0 w
   pub step : slice_get a.path.steps.items (length (journey line t s) - 1 - a.mark) ≡ Some (last_step (journey line t s))
   pub place : step_begin line t s a.mark + (total (seg_len line) (take (length (journey line t s) - 1 - a.mark) a.path.steps.items) + head_offset line t s) ≡ head t s
 
--- the last of the first steps of a list, and where it begins, on the steps behind a mark
+-- the last of the first steps of a list, and where it begins, on the steps from a mark on
 on_behind : (j m : ℕ) (before steps : List DirSeg) → length before ≡ m → m < j → j ≤ m + length steps → slice_get steps (j - 1 - m) ≡ slice_get (before ++ steps) (j - 1)
 on_behind j m before steps l a b =
     let e : m + (j - 1 - m) ≡ j - 1 = omega (arith, a) in

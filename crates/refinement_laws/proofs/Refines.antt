@@ -21,7 +21,7 @@ use Rattle.refinement_laws.proofs.One_zone.{the_zone}
 use Rattle.refinement_laws.proofs.Envelopes.{envelope_now}
 use Rattle.refinement_laws.proofs.Refining.{effect_now, refines_step}
 
--- that the invariant holds of every train behind every list of kept events
+-- that the invariant holds of every train after every list of kept events
 abbrev pub AllInvariant : Line → Type 0
 AllInvariant line = (t : ℕ) → (ts : List Event) → Kept line ts → Invariant line t (story_of line ts)
 

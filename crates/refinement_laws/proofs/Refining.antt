@@ -36,7 +36,7 @@ use Rattle.event_laws.proofs.Grants.{grant_takes}
 use Rattle.refinement_laws.proofs.One_zone.{world_sent}
 use Rattle.invariant_laws.proofs.One_zone.{actor_zone}
 use Rattle.refinement_laws.proofs.Values.{facts_is, authority_is, head_is, on_is, number_is}
-use Rattle.refinement_laws.proofs.Heeded.{world_heeded, zone_heeded}
+use Rattle.refinement_laws.proofs.Acts_on_sent.{world_acts_on_sent, zone_acts_on_sent}
 use Rattle.refinement_laws.proofs.World_refined.{train_refined, entry_refined}
 use Rattle.refinement_laws.proofs.World_steps.{enter_refined, still_refined, step_refined}
 use Rattle.refinement_laws.proofs.Auth_refined.{take_transition, world_take_refined}
@@ -65,16 +65,16 @@ module _ (line : Line) (s : Story) (p : Plain) (one : IsLineOfOneZone line) (sho
 
   world_taken : (from j : ℕ) (m : Msg) → slice_get (sent from 0 s) j ≡ Some m → world_takes s from m ≡ world_take_effect line p.world from m
   world_taken from j m is =
-      world_takes_now from m ∙ sym (ap (λ (b : Bool). if b then auth_answer p.world.clock p.world.trains from m else nothing) (world_heeded line s p one k invariant short from 0 j m is))
+      world_takes_now from m ∙ sym (ap (λ (b : Bool). if b then auth_answer p.world.clock p.world.trains from m else nothing) (world_acts_on_sent line s p one k invariant short from 0 j m is))
 
-  -- what an event does and what is behind it
+  -- what an event does and what follows
   record Follows (to from number : ℕ) (r : Option Msg) : Type 0 where
     effect : effect_of (taking line s (Take to from number) to from r) ≡ taken_effect line p to from r
     refines : Refines line (taking line s (Take to from number) to from r ∷ s) (taken_next line p to from r)
 
   zone_follows : (z number : ℕ) (m : Msg) → suc z ≡ zone_id line → message 0 (suc z) number s ≡ Some m → ((t : ℕ) → Invariant line t (zone_made z number m (zone_step line (suc z) 0 s m) ∷ s)) → Follows (suc z) 0 number (Some m)
   zone_follows z number m zone is after =
-      let heeds = zone_heeded line s p one k invariant short 0 (suc z) (number - 1) m is in
+      let acts_on = zone_acts_on_sent line s p one k invariant short 0 (suc z) (number - 1) m is in
       let later : (t : ℕ) → Invariant line t (zone_made z number m (zone_step line (zone_id line) 0 s m) ∷ s) = λ t. subst (λ (n : ℕ). Invariant line t (zone_made z number m (zone_step line n 0 s m) ∷ s)) zone (after t) in
       let grants : (t : ℕ) → controls (zone_id line) t s ≡ true → grants_entry (zone_id line) t (zone_made z number m (zone_step line (zone_id line) 0 s m)) ≡ false = λ t c.
       by_test (grants_entry (zone_id line) t (zone_made z number m (zone_step line (zone_id line) 0 s m)))
@@ -85,18 +85,18 @@ module _ (line : Line) (s : Story) (p : Plain) (one : IsLineOfOneZone line) (sho
       absurd (let x : true ≡ false = sym c ∙ fresh in cc))
       (λ n. n) in
       record {
-        effect = ap (λ (n : ℕ). zone_step line n 0 s m) zone ∙ (zone_taken line z number m s p one zone k invariant later grants heeds ∙ ap (λ (n : ℕ). zone_take_effect line (p.zones n) 0 m) (sym zone));
-        refines = subst (λ (n : ℕ). Refines line (zone_made z number m (zone_step line n 0 s m) ∷ s) (zone_next p n (zone_take_next line (p.zones n) 0 m) (zone_take_effect line (p.zones n) 0 m))) (sym zone) (zone_take_refined line z number m s p one zone k invariant later grants heeds);
+        effect = ap (λ (n : ℕ). zone_step line n 0 s m) zone ∙ (zone_taken line z number m s p one zone k invariant later grants acts_on ∙ ap (λ (n : ℕ). zone_take_effect line (p.zones n) 0 m) (sym zone));
+        refines = subst (λ (n : ℕ). Refines line (zone_made z number m (zone_step line n 0 s m) ∷ s) (zone_next p n (zone_take_next line (p.zones n) 0 m) (zone_take_effect line (p.zones n) 0 m))) (sym zone) (zone_take_refined line z number m s p one zone k invariant later grants acts_on);
       }
 
   world_follows : (from number : ℕ) (m : Msg) → message from 0 number s ≡ Some m → ((t : ℕ) → Invariant line t (take_transition 0 from number m (world_takes s from m) ∷ s)) → Follows 0 from number (Some m)
   world_follows from number m is after =
       let y = world_taken from (number - 1) m is in
-      let heeds = world_heeded line s p one k invariant short from 0 (number - 1) m is in
+      let acts_on = world_acts_on_sent line s p one k invariant short from 0 (number - 1) m is in
       record {
         effect = y;
         refines = subst (λ (w : PlainWorld). Refines line (take_transition 0 from number m (world_takes s from m) ∷ s) (world_next p w (world_take_effect line p.world from m)))
-            (sym (ap (λ (c : Bool). if c then record { clock = p.world.clock; trains = trains_after (seg_len line) p.world.trains from m } else p.world) heeds))
+            (sym (ap (λ (c : Bool). if c then record { clock = p.world.clock; trains = trains_after (seg_len line) p.world.trains from m } else p.world) acts_on))
             (world_take_refined line from number (number - 1) m s p (world_take_effect line p.world from m) is one k invariant after (sym y));
       }
 

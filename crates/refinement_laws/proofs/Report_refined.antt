@@ -25,8 +25,8 @@ use Rattle.plain_state.specs.Zone.{find_controlled, change_controlled, has_mark,
 use Rattle.definitions.specs.Zones.{zone_id}
 use Rattle.plain_state.specs.Refinement.{zone_train}
 use Rattle.invariant_laws.proofs.Invariant.{Invariant}
-use Rattle.front_laws.proofs.Heads.{control_of}
-use Rattle.front_laws.proofs.Front_entry.{known_long}
+use Rattle.front_laws.proofs.Head_place.{control_of}
+use Rattle.front_laws.proofs.Entry_fronts.{known_long}
 use Rattle.front_laws.proofs.Front_numbers.{grown_to, fronts_left, fronts_kept}
 use Rattle.plain_state.proofs.Trains.{mapped, found_changed, found_other}
 use Rattle.refinement_laws.proofs.Zone_values.{Grown}
@@ -171,7 +171,7 @@ module _ (line : Line) (z number : ℕ) (u : TrainId) (time mark : ℕ) (offset 
       front_now : ℕ
       front_now = last (fronts_behind line (zone_id line) t s (possible_front line (zone_id line) t s) r) (longest_end line t s + 1)
 
-  -- and the trains behind it
+  -- and the trains after it
   pub report_found : (e : Effect) → ((v : ℕ) → NoAuth v e.issued) → ((v : ℕ) → Invariant line v (zone_made z number (msg.Report u time mark offset integrity) e ∷ s)) → (v : ℕ)
       → find_controlled v (if uses_mark (find_controlled u.0 ways) mark then change_controlled u.0 (reported_by (seg_len line) time mark offset integrity) ways else ways) ≡ zone_train line v (zone_made z number (msg.Report u time mark offset integrity) e ∷ s)
   report_found e silent after v = by_test used

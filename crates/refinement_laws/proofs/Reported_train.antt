@@ -1,4 +1,4 @@
--- A kept train behind a used report: where it is, and its way cut behind its rear.
+-- A kept train after a used report: where it is, and its way cut behind its rear.
 use Rattle.std.proofs.Common.{◌≡◌, ℕ, ◌+◌, ◌-◌, ◌<◌, ◌≤◌, max, List, take, drop, Bool, true, ◌∙◌, ap, arith, None}
 use Rattle.std.proofs.lemmas.List.{drop-drop}
 use Rattle.std.proofs.Math.Seq.{take-add}
@@ -17,7 +17,7 @@ use Rattle.plain_state.specs.declared.Controlled.{Controlled}
 use Rattle.plain_state.specs.Zone.{has_mark, narrowed_by, cut_behind, place_of_train}
 use Rattle.way_laws.proofs.Cut.{total_append}
 use Rattle.way_laws.proofs.Between_places.{begin_of, behind_from, behind_take, between_rear_at, between_front_at}
-use Rattle.front_laws.proofs.Shifted.{narrowed_to, narrowed_shifted}
+use Rattle.front_laws.proofs.Narrowed_shifted.{narrowed_to, narrowed_shifted}
 use Rattle.refinement_laws.proofs.Kept_train.{kept_train}
 use Rattle.refinement_laws.proofs.Way_marks.{named_is, behind_way}
 

@@ -13,8 +13,8 @@ use Rattle.definitions.specs.Authority.{way}
 use Rattle.definitions.specs.Zones.{zone_id}
 use Rattle.invariant_laws.proofs.One_route.{kept_reach}
 use Rattle.invariant_laws.proofs.Invariant.{Invariant}
-use Rattle.front_laws.proofs.Heads.{control_of}
-use Rattle.front_laws.proofs.Front_entry.{known_long}
+use Rattle.front_laws.proofs.Head_place.{control_of}
+use Rattle.front_laws.proofs.Entry_fronts.{known_long}
 use Rattle.front_laws.proofs.Front_numbers.{least_rear_is, greatest_front_is}
 use Rattle.front_laws.proofs.Front_ends.{least_front_is}
 use Rattle.front_laws.proofs.Way_begins.{way_begins}

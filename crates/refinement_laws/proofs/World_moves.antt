@@ -39,7 +39,7 @@ posted_sent actor from to x s y links acts is told = by_test (nat_eq x.actor fro
     let other : nat_eq actor from ≡ false = subst (λ (n : ℕ). nat_eq n from ≡ false) acts h in
     rw other (told ∙ sym (sent_else from to x s h)))
 
--- A transition of the world, with the clock and the trains behind it.
+-- A transition of the world, with the clock and the trains after it.
 pub record WorldMoves (line : Line) (s : Story) (x : Transition) (ms : ℕ) (trains : List WorldTrain) : Type 0 where
   pub by_world : x.actor ≡ 0
   pub time : ms ≡ clock (x ∷ s)

@@ -30,7 +30,7 @@ use Rattle.plain_state.proofs.Trains.{mapped}
 use Rattle.refinement_laws.proofs.Values.{no_entry_authority, no_number}
 use Rattle.event_laws.proofs.Still.{head_same, heads_same, last_still, limit_still, authority_still, facts_still, entry_still, undeclared_before, unasked_same, off_same, authorized_same, as_many, clock_still}
 use Rattle.refinement_laws.proofs.World_moves.{world_same, world_refined}
-use Rattle.refinement_laws.proofs.Limits.{off_limit}
+use Rattle.refinement_laws.proofs.Limit_same.{off_limit}
 
 -- A train is declared.
 

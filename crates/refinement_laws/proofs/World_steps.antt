@@ -32,7 +32,7 @@ use Rattle.plain_state.proofs.Trains.{mapped}
 use Rattle.event_laws.proofs.Still.{heads_same, StillWorld, last_still, authority_still, facts_still, entry_still, undeclared_before, authority_stays, unasked_same, off_same, authorized_same, as_many, clock_still}
 use Rattle.refinement_laws.proofs.World_moves.{world_same, world_refined}
 use Rattle.refinement_laws.proofs.Head_moved.{head_at}
-use Rattle.refinement_laws.proofs.Limits.{head_moves, limit_same, head_at_length, journey_entered}
+use Rattle.refinement_laws.proofs.Limit_same.{head_moves, limit_same, head_at_length, journey_entered}
 
 -- A train comes on.
 

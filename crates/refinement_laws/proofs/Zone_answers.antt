@@ -26,18 +26,18 @@ use Rattle.plain_state.specs.Refinement.{zone_train_of, zone_train, Refines}
 use Rattle.event_laws.proofs.Controls.{controls_same}
 use Rattle.invariant_laws.proofs.Invariant.{Invariant}
 use Rattle.front_laws.proofs.Front_numbers.{grown_to}
-use Rattle.front_laws.proofs.Unshrunk.{counted_answered}
+use Rattle.front_laws.proofs.Account_moves.{counted_answered}
 use Rattle.event_laws.proofs.Last_issued.{last_quiet}
 use Rattle.plain_state.proofs.Trains.{mapped, found_changed, found_other, ids_change, distinct_change}
 use Rattle.refinement_laws.proofs.Zone_values.{Grown, way_now, last_now, known_now, full_now, holder_now, reach_now}
 use Rattle.refinement_laws.proofs.Values.{way_is_known}
 use Rattle.refinement_laws.proofs.Kept_train.{kept_train}
 use Rattle.event_laws.proofs.Issued.{NoAuth}
-use Rattle.refinement_laws.proofs.Unissued.{end_same}
+use Rattle.refinement_laws.proofs.World_controls.{end_same}
 use Rattle.refinement_laws.proofs.Zone_idle.{no_train}
 use Rattle.refinement_laws.proofs.Zone_moves.{zone_made, zone_heads, ZoneMoves}
 use Rattle.refinement_laws.proofs.Zone_behind.{grown_is, controlled_still, behind_unused, zone_silent}
-use Rattle.refinement_laws.proofs.Quiet_refined.{silent_stays, stay_moves}
+use Rattle.refinement_laws.proofs.Quiet_moves.{silent_stays, stay_moves}
 use Rattle.refinement_laws.proofs.Report_refined.{report_answer}
 
 time_by : (line : Line) (u : TrainId) (s : Story) (clock : ℕ) (w : Option PlainWay) → zone_time (is_some w) (counted line u.0 s) (last_issued u.0 s) u w ≡ again_found u (mapped (grown_train clock) (zone_train_of line (zone_id line) u.0 s w))

@@ -26,13 +26,13 @@ use Rattle.invariant_laws.proofs.Invariant.{Invariant}
 use Rattle.front_laws.proofs.Front_numbers.{grown_to, fronts_left}
 use Rattle.front_laws.proofs.Front_ends.{ends_grown, ends_narrowed}
 use Rattle.front_laws.proofs.Route_goes_on.{route_stays}
-use Rattle.front_laws.proofs.Unshrunk.{none_takes, answers, counted_unanswered}
+use Rattle.front_laws.proofs.Account_moves.{none_takes, answers, counted_unanswered}
 use Rattle.event_laws.proofs.Last_issued.{last_quiet}
 use Rattle.plain_state.proofs.Trains.{mapped}
 use Rattle.refinement_laws.proofs.Way_of.{way_of}
 use Rattle.refinement_laws.proofs.Kept_train.{kept_train, zone_kept, kept_grown, zone_behind}
 use Rattle.event_laws.proofs.Issued.{NoAuth}
-use Rattle.refinement_laws.proofs.Unissued.{end_same}
+use Rattle.refinement_laws.proofs.World_controls.{end_same}
 use Rattle.refinement_laws.proofs.Zone_idle.{no_train}
 use Rattle.refinement_laws.proofs.Zone_moves.{zone_made, zone_heads}
 

@@ -24,7 +24,7 @@ use Rattle.refinement_laws.proofs.One_zone.{zone_positive}
 use Rattle.refinement_laws.proofs.Values.{no_way}
 use Rattle.refinement_laws.proofs.Kept_train.{kept_train, zone_kept, zone_behind}
 use Rattle.event_laws.proofs.Issued.{NoAuth}
-use Rattle.refinement_laws.proofs.Unissued.{end_same, world_controls}
+use Rattle.refinement_laws.proofs.World_controls.{end_same, world_controls}
 
 pub no_train : (line : Line) (t : ℕ) (s : Story) → controls (zone_id line) t s ≡ false → zone_train line t s ≡ None
 no_train line t s n = ap (λ (w : Option PlainWay). zone_train_of line (zone_id line) t s w) (no_way line (zone_id line) t s n)

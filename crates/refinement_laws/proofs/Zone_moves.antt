@@ -35,7 +35,7 @@ zone_made z number m x = take_transition (suc z) 0 number m x
 pub zone_heads : (t z number : ℕ) (m : Msg) (e : Effect) (s : Story) → head t s ≤ head t (zone_made z number m e ∷ s)
 zone_heads t z number m e s = let h = head_still t (zone_made z number m e) s refl in omega (arith, h)
 
--- the trains behind it
+-- the trains after it
 pub record ZoneMoves (line : Line) (s : Story) (x : Transition) (trains : List Controlled) : Type 0 where
   pub found : (t : ℕ) → find_controlled t trains ≡ zone_train line t (x ∷ s)
   pub known : ids trains ≡ known_trains (zone_id line) (x ∷ s)
@@ -47,7 +47,7 @@ last_next : (t : ℕ) (x : Transition) (s : Story) → greatest_in (auth_number 
 unfolding greatest_issued
 last_next t x s h k = omega (arith, h, k)
 
--- the zone behind it
+-- the zone after it
 zone_moved : (line : Line) (z number : ℕ) (m : Msg) (e : Effect) (s : Story) (y : PlainZone) (trains : List Controlled) → IsLineOfOneZone line → suc z ≡ zone_id line → ZoneRefines line (zone_id line) s y → ZoneMoves line s (zone_made z number m e) trains
     → ((t : ℕ) → Invariant line t (zone_made z number m e ∷ s)) → ZoneRefines line (zone_id line) (zone_made z number m e ∷ s) (record { id = y.id; clock = clock_after y.clock m; trains = trains })
 zone_moved line z number m e s y trains one zone k moves after =

@@ -14,7 +14,7 @@ use Rattle.definitions.specs.Authority.{way}
 use Rattle.definitions.specs.Steps.{Effect, nothing, zone_takes, falls_silent, alarm, alarms, zone_step}
 use Rattle.definitions.specs.Safe.{IsLineOfOneZone}
 use Rattle.plain_state.specs.declared.Controlled.{Controlled}
-use Rattle.plain_state.specs.Zone.{PlainZone, find_controlled, report_or, report_of, is_alarmed, alarm_of, plain_alarms, trains_heeded, zone_answer, zone_heeds, clock_after, trains_grown, trains_stepped, zone_gives, zone_take_effect, zone_take_next, grown_train}
+use Rattle.plain_state.specs.Zone.{PlainZone, find_controlled, report_or, report_of, is_alarmed, alarm_of, plain_alarms, trains_acted_on, zone_answer, zone_acts_on, clock_after, trains_grown, trains_stepped, zone_gives, zone_take_effect, zone_take_next, grown_train}
 use Rattle.definitions.specs.Zones.{zone_id}
 use Rattle.plain_state.specs.Plain.{Plain, by_zone as zone_next}
 use Rattle.plain_state.specs.Refinement.{zone_train_of, ZoneRefines, Refines}
@@ -56,7 +56,7 @@ module _ (line : Line) (z number : ℕ) (m : Msg) (s : Story) (p : Plain) (one :
   ways = map (grown_train now_) own.trains
 
   abbrev behind : List Controlled
-  behind = trains_heeded line (zone_id line) now_ ways m
+  behind = trains_acted_on line (zone_id line) now_ ways m
 
   abbrev e : Effect
   e = zone_step line (zone_id line) 0 s m
@@ -95,17 +95,17 @@ module _ (line : Line) (z number : ℕ) (m : Msg) (s : Story) (p : Plain) (one :
         filtered_is (is_alarmed line (now_of (zone_id line) s) now_ behind) (falls_silent line (zone_id line) s m) (alarm_of (zone_id line)) (alarm (zone_id line)) own.trains told.distinct alarmed_is (λ y. refl)
         ∙ ap (λ (us : List ℕ). map (alarm (zone_id line)) (filter (falls_silent line (zone_id line) s m) us)) told.known
 
-    -- Heeded.
-    module _ (heeds : zone_heeds line own 0 m ≡ true) where
+    -- Acts_on_sent.
+    module _ (acts_on : zone_acts_on line own 0 m ≡ true) where
       stepped_is : trains_stepped line own 0 m ≡ behind
       stepped_is =
-          ap (λ (b : Bool). if b then trains_heeded line own.id (clock_after own.clock m) (trains_grown line own m) m else trains_grown line own m) heeds
-          ∙ (ap (λ (i : ℕ). trains_heeded line i (clock_after own.clock m) (trains_grown line own m) m) told.id
-          ∙ ap (λ (c : ℕ). trains_heeded line (zone_id line) (clock_after c m) (map (grown_train (clock_after c m)) own.trains) m) told.clock)
+          ap (λ (b : Bool). if b then trains_acted_on line own.id (clock_after own.clock m) (trains_grown line own m) m else trains_grown line own m) acts_on
+          ∙ (ap (λ (i : ℕ). trains_acted_on line i (clock_after own.clock m) (trains_grown line own m) m) told.id
+          ∙ ap (λ (c : ℕ). trains_acted_on line (zone_id line) (clock_after c m) (map (grown_train (clock_after c m)) own.trains) m) told.clock)
 
       gives_is : zone_gives line own 0 m ≡ zone_takes line (zone_id line) 0 s m
       gives_is =
-          ap (λ (b : Bool). if b then zone_answer line own.id (clock_after own.clock m) (trains_grown line own m) m else nothing) heeds
+          ap (λ (b : Bool). if b then zone_answer line own.id (clock_after own.clock m) (trains_grown line own m) m else nothing) acts_on
           ∙ (ap (λ (i : ℕ). zone_answer line i (clock_after own.clock m) (trains_grown line own m) m) told.id
           ∙ (ap (λ (c : ℕ). zone_answer line (zone_id line) (clock_after c m) (map (grown_train (clock_after c m)) own.trains) m) told.clock
           ∙ sym (answer_now line z number s one zone invariant m ways (grown_of line s own now_ told))))

@@ -20,7 +20,7 @@ use Rattle.definitions.specs.Steps.{Effect, nothing, enter_or_held, zone_entry, 
 use Rattle.definitions.specs.Safe.{IsLineOfOneZone}
 use Rattle.event_laws.proofs.Answers.{report_none}
 use Rattle.plain_state.specs.declared.Controlled.{Controlled}
-use Rattle.plain_state.specs.Zone.{find_controlled, change_controlled, full, holder_plain, lengthened, entered_or, train_at_entry, trains_entered, trains_asked, uses_mark, reported_by, trains_heeded}
+use Rattle.plain_state.specs.Zone.{find_controlled, change_controlled, full, holder_plain, lengthened, entered_or, train_at_entry, trains_entered, trains_asked, uses_mark, reported_by, trains_acted_on}
 use Rattle.definitions.specs.Zones.{zone_id}
 use Rattle.plain_state.specs.Plain.{Plain}
 use Rattle.plain_state.specs.Refinement.{Refines}
@@ -32,7 +32,7 @@ use Rattle.refinement_laws.proofs.Zone_values.{Grown, known_now, full_now, holde
 use Rattle.refinement_laws.proofs.Way_of.{way_of}
 use Rattle.refinement_laws.proofs.Values.{no_way}
 use Rattle.refinement_laws.proofs.Zone_moves.{zone_made, zone_heads, ZoneMoves}
-use Rattle.refinement_laws.proofs.Quiet_refined.{silent_stays, stay_moves, quiet_moves, again_moves}
+use Rattle.refinement_laws.proofs.Quiet_moves.{silent_stays, stay_moves, quiet_moves, again_moves}
 use Rattle.refinement_laws.proofs.Report_refined.{report_found}
 use Rattle.refinement_laws.proofs.Entry_refined.{entered_moves}
 use Rattle.refinement_laws.proofs.Ask_refined.{given, ask_moves}
@@ -79,7 +79,7 @@ module _ (line : Line) (z number : ℕ) (s : Story) (p : Plain) (one : IsLineOfO
         (λ y. rw y (refused nothing refl (λ t. rw y at (after t))))
         (λ n. rw n (by_holder fresh n holder (λ t. rw n at (after t))))
 
-    pub entry_moves : AfterAll entry_m (zone_takes line (zone_id line) 0 s entry_m) → Moves entry_m (zone_takes line (zone_id line) 0 s entry_m) (trains_heeded line (zone_id line) (now_with (zone_id line) s entry_m) ways entry_m)
+    pub entry_moves : AfterAll entry_m (zone_takes line (zone_id line) 0 s entry_m) → Moves entry_m (zone_takes line (zone_id line) 0 s entry_m) (trains_acted_on line (zone_id line) (now_with (zone_id line) s entry_m) ways entry_m)
     entry_moves after =
         let n = now_with (zone_id line) s entry_m in
         let z0 = zone_id line in
@@ -126,7 +126,7 @@ module _ (line : Line) (z number : ℕ) (s : Story) (p : Plain) (one : IsLineOfO
         (λ n. granted c n now_after)) after)
         (λ o. absurd (let x : None ≡ Some w = sym (no_way line (zone_id line) u.0 s o) ∙ is in cc))
 
-    pub asking_moves : AfterAll ask_m (zone_takes line (zone_id line) 0 s ask_m) → Moves ask_m (zone_takes line (zone_id line) 0 s ask_m) (trains_heeded line (zone_id line) (now_with (zone_id line) s ask_m) ways ask_m)
+    pub asking_moves : AfterAll ask_m (zone_takes line (zone_id line) 0 s ask_m) → Moves ask_m (zone_takes line (zone_id line) 0 s ask_m) (trains_acted_on line (zone_id line) (now_with (zone_id line) s ask_m) ways ask_m)
     asking_moves after =
         subst (λ (r : Reach). Moves ask_m (zone_takes line (zone_id line) 0 s ask_m) (trains_asked (seg_len line) u.0 steps.items r ways)) (sym (reach_now line s one.valid invariant (now_with (zone_id line) s ask_m) ways g u.0 steps.items to (now_with (zone_id line) s ask_m)))
         (ask_by (way line (zone_id line) u.0 s) refl after)
@@ -134,14 +134,14 @@ module _ (line : Line) (z number : ℕ) (s : Story) (p : Plain) (one : IsLineOfO
   -- A report, the time, and what does nothing.
 
   pub take_moves : (m : Msg) (ways : List Controlled) → Grown line s (now_with (zone_id line) s m) ways → AfterAll m (zone_takes line (zone_id line) 0 s m)
-      → Moves m (zone_takes line (zone_id line) 0 s m) (trains_heeded line (zone_id line) (now_with (zone_id line) s m) ways m)
+      → Moves m (zone_takes line (zone_id line) 0 s m) (trains_acted_on line (zone_id line) (now_with (zone_id line) s m) ways m)
   take_moves (msg.EntryAsk u time long error speed equipped step) ways g after = entry_moves u time long error speed equipped step ways g after
   take_moves (msg.Ask u time steps to) ways g after = asking_moves u time steps to ways g after
   take_moves (msg.Report u time mark offset integrity) ways g after =
       let m = msg.Report u time mark offset integrity in
       let e = issuing (zone_takes line (zone_id line) 0 s m) lines in
       let silent : (v : ℕ) → NoAuth v e.issued = λ v. no_issue v e.issued (report_none line (zone_id line) s u m) in
-      stay_moves line (zone_made z number m e) s p (trains_heeded line (zone_id line) (now_with (zone_id line) s m) ways m) one k invariant after
+      stay_moves line (zone_made z number m e) s p (trains_acted_on line (zone_id line) (now_with (zone_id line) s m) ways m) one k invariant after
       (silent_stays line (zone_made z number m e) s invariant after (λ v. zone_heads v z number m e s) silent)
       (report_found line z number u time mark offset integrity s one zone invariant ways g e silent after)
       (by_test (uses_mark (find_controlled u.0 ways) mark)

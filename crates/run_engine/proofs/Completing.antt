@@ -13,8 +13,8 @@ use Rattle.document_laws.specs.Refused.{story_ended}
 use Rattle.document_laws.proofs.Throughout.{safe_throughout}
 use Rattle.document_laws.proofs.Whole.{document_gives, document_gives_nothing}
 use Rattle.document_laws.proofs.Refused.{refused_in_script, refused_among_items, unfinished}
-use Rattle.safe_laws.proofs.Safety.{safe_story, granted_story}
-use Rattle.step_laws.proofs.Every.{invariant_story}
+use Rattle.safe_laws.proofs.Safe_story.{safe_story, granted_story}
+use Rattle.step_laws.proofs.Invariant_story.{invariant_story}
 use Rattle.run_engine.specs.Running.{Gave, Ran, Causes}
 use Rattle.run_engine.specs.Complete.{Completed, NoFault, Complete, Settled, RefusesDocument}
 

@@ -1,12 +1,11 @@
--- One text behind another, where memory may be wanting.
-use Rattle.std.proofs.Common.{◌≡◌, ℕ, ◌≤◌, List, [], ◌++◌, Option, Some, None, Result, Ok, Err, OnOk, refl, sym, ◌∙◌, ap, subst, append-nil, arith}
+-- What a call's clause tells that writes a text.
+use Rattle.std.proofs.Common.{◌≡◌, ℕ, ◌≤◌, List, Option, Some, None, Result, Ok, Err, OnOk, refl, sym, ◌∙◌, ap, subst, append-nil, arith}
 use Rattle.edge_io.specs.declared.writing.WriteFault.{WriteFault}
 use Rattle.edge_io.specs.Reading.{WroteIs, WroteFront}
 use Rattle.edge_io.specs.Writing.{Wrote}
 use Rattle.edge_io.specs.Causes.{Rose}
-use Rattle.edge_io.proofs.Wrote.{wrote_then, front_then, front_more, wrote_none}
-use Rattle.run_engine.specs.declared.feed.Fault.{Fault}
-use Rattle.run_engine.specs.declared.feed.Fault.TheVariants as faults
+use Rattle.run_engine.specs.declared.output.Fault.{Fault}
+use Rattle.run_engine.specs.declared.output.Fault.TheVariants as faults
 use Rattle.run_engine.specs.Does.{Does}
 use Rattle.run_engine.specs.Running.{PumpCauses, cut_of}
 
@@ -19,47 +18,14 @@ front_none None t = refl
 front_none (Some a) t = (0, omega arith, ap Some (sym (append-nil a)))
 
 module _ {K : Type 0} (written : K → Option (List ℕ)) (count : K → ℕ) where
-  pub nothing : {X : Type 0} (a : K) (t : List ℕ) (x : X) → t ≡ [] → Does written count a a t (Ok x)
-  unfolding Does
-  nothing a t x h = (subst (WroteIs (written a) (written a)) (sym h) (wrote_none (written a)), refl)
+  -- what a call's clause tells that wants no memory
+  pub whole : (a b : K) (t : List ℕ) (u : Unit {0}) → Wrote written count a b t (Ok u) → WroteIs (written a) (written b) t × (count b ≡ count a)
+  unfolding Wrote
+  whole a b t u h = h
 
-  pub no_memory : (X : Type 0) (a : K) (t : List ℕ) → Does {X = X} written count a a t (Err faults.Memory)
-  unfolding Does
-  no_memory X a t = (front_none (written a) t, refl)
-
-  pub of_ok : {X : Type 0} (a b : K) (t : List ℕ) (u : Unit {0}) (x : X) → Wrote written count a b t (Ok u) → Does written count a b t (Ok x)
-  unfolding Does Wrote
-  of_ok a b t u x h = h
-
-  pub of_err : (X : Type 0) (a b : K) (t : List ℕ) (e : WriteFault) → Wrote written count a b t (Err e) → Does {X = X} written count a b t (Err faults.Write)
-  unfolding Does Wrote
-  of_err X a b t e h = h
-
-  pub answers : {X Y : Type 0} (a b : K) (t : List ℕ) (x : X) (y : Y) → Does written count a b t (Ok x) → Does written count a b t (Ok y)
-  unfolding Does
-  answers a b t x y h = h
-
-  pub fails : (X Y : Type 0) (a b : K) (t : List ℕ) (e : Fault) → Does {X = X} written count a b t (Err e) → Does {X = Y} written count a b t (Err e)
-  unfolding Does
-  fails X Y a b t faults.Write h = h
-  fails X Y a b t faults.Memory h = h
-
-  -- a text that is spelled another way
-  pub other_text : {X : Type 0} (a b : K) (s t : List ℕ) (r : Result X Fault) → s ≡ t → Does written count a b s r → Does written count a b t r
-  other_text a b s t r e h = subst (λ (u : List ℕ). Does written count a b u r) e h
-
-  -- what was written whole, and then more
-  pub then : {X Y : Type 0} (a b c : K) (s t : List ℕ) (x : X) (r : Result Y Fault) → Does written count a b s (Ok x) → Does written count b c t r → Does written count a c (s ++ t) r
-  unfolding Does
-  then a b c s t x (Ok y) h k = (wrote_then (written a) (written b) (written c) s t h.0 k.0, k.1 ∙ h.1)
-  then a b c s t x (Err faults.Write) h k = (front_then (written a) (written b) (written c) s t h.0 k.0, subst (λ n. n ≤ count c) h.1 k.1, subst (λ n. Rose n (count c)) h.1 k.2)
-  then a b c s t x (Err faults.Memory) h k = (front_then (written a) (written b) (written c) s t h.0 k.0, k.1 ∙ h.1)
-
-  -- what failed before more was written
-  pub stop : (X Y : Type 0) (a b : K) (s t : List ℕ) (e : Fault) → Does {X = X} written count a b s (Err e) → Does {X = Y} written count a b (s ++ t) (Err e)
-  unfolding Does
-  stop X Y a b s t faults.Write h = (front_more (written a) (written b) s t h.0, h.1, h.2)
-  stop X Y a b s t faults.Memory h = (front_more (written a) (written b) s t h.0, h.1)
+  pub part : (a b : K) (t : List ℕ) (e : WriteFault) → Wrote written count a b t (Err e) → WroteFront (written a) (written b) t × (count a ≤ count b) × Rose (count a) (count b)
+  unfolding Wrote
+  part a b t e h = h
 
   -- what a call's clause tells of a text that is spelled another way
   pub told_ok : {X : Type 0} (a b : K) (t s : List ℕ) (x : X) → Does written count a b t (Ok x) → t ≡ s → WroteIs (written a) (written b) s × (count b ≡ count a)

@@ -20,10 +20,8 @@ use Rattle.definitions.specs.Endings.{status_of}
 use Rattle.definitions.specs.Trace.{Stage, Items, Script, Over, is_over, stage_read, stage_ends, second_zone, item_read, event_read, Given}
 use Rattle.byte_feed.specs.Feed.{Feed, fed_gives}
 use Rattle.byte_feed.proofs.Streams.{fed_over}
-use Rattle.run_engine.specs.declared.pump.Cut.{Cut}
-use Rattle.run_engine.specs.declared.pump.Cut.TheVariants as cuts
 use Rattle.run_engine.specs.Shown.{done_early}
-use Rattle.run_engine.specs.Running.{AtEnd, status_of_cut}
+use Rattle.run_engine.specs.Running.{AtEnd}
 
 built_never : (n : ℕ) (line : Line) (events : List Event) (count : ℕ) (s : Story) (e : Event) → done_early (event_read n line events count s e).stage ≡ false
 built_never n line events count s e = by_test (built line s e)
@@ -67,11 +65,6 @@ pub done_only : (f : Feed) (e : Ending) → done_early f.reading.stage ≡ false
 done_only f e k is h = by_test (is_over f.reading.stage)
     (λ over. absurd (over_ends f.reading.number f.reading.stage over k (sym (ap status_of (is ∙ ap (λ (g : Given). g.ending) (fed_over f [] over))) ∙ h)))
     (λ on. on)
-
-pub cut_not_done : (cut : Cut) → status_of_cut cut ≡ status.Done → ⊥
-cut_not_done cuts.Read h = cc
-cut_not_done cuts.Write h = cc
-cut_not_done cuts.Memory h = cc
 
 pub at_end : (old new : Option (List ℕ)) (buf : List ℕ) → Gives End old buf new → AtEnd new
 at_end None None buf g = tt

@@ -1,6 +1,9 @@
+pub mod Stages
 pub mod Going
 pub mod Steady
 pub mod Doing
+pub mod Sending
+pub mod Line_texts
 pub mod Taking
 pub mod Running
 pub mod Completing

@@ -14,8 +14,8 @@ use Rattle.byte_feed.proofs.Streams.{trace_fed}
 use Rattle.byte_feed.proofs.Whole_lines.{so_far}
 use Rattle.byte_feed.proofs.Pieces.{gives_append, gives_over, feds_count, feds_append, feds_text_append}
 use Rattle.run_engine.proofs.Doing.{front_none}
-use Rattle.run_engine.specs.declared.feed.Fault.{Fault}
-use Rattle.run_engine.specs.declared.feed.Fault.TheVariants as faults
+use Rattle.run_engine.specs.declared.output.Fault.{Fault}
+use Rattle.run_engine.specs.declared.output.Fault.TheVariants as faults
 use Rattle.run_engine.specs.declared.pump.Cut.{Cut}
 use Rattle.run_engine.specs.declared.pump.Cut.TheVariants as cuts
 use Rattle.edge_io.specs.declared.status.Status.TheVariants as status
@@ -124,7 +124,7 @@ gave_whole ends.Input all before now e w = (ap status_of e, w)
 gave_whole ends.Trains all before now e w = (ap status_of e, w)
 gave_whole (ends.Unbuilt n) all before now e w = (ap status_of e, w)
 
-pub gave_front : (cut : Cut) (all : Given) (before now : Option (List ℕ)) → WroteFront before now all.text → Gave (status_of_cut cut) all before now
+gave_front : (cut : Cut) (all : Given) (before now : Option (List ℕ)) → WroteFront before now all.text → Gave (status_of_cut cut) all before now
 gave_front cuts.Read all before now w = w
 gave_front cuts.Write all before now w = w
 gave_front cuts.Memory all before now w = w

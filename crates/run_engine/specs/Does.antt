@@ -1,7 +1,7 @@
 -- What a call leaves that writes a text and may want memory.
 use Rattle.std.specs.Prelude.{◌≡◌, ℕ, ◌≤◌, List, Option, Result, Ok, Err}
-use Rattle.run_engine.specs.declared.feed.Fault.{Fault}
-use Rattle.run_engine.specs.declared.feed.Fault.TheVariants as faults
+use Rattle.run_engine.specs.declared.output.Fault.{Fault}
+use Rattle.run_engine.specs.declared.output.Fault.TheVariants as faults
 use Rattle.edge_io.specs.Reading.{WroteIs, WroteFront}
 use Rattle.edge_io.specs.Causes.{Rose}
 

@@ -8,12 +8,12 @@ use Rattle.definitions.specs.Lines.{text_lines}
 use Rattle.definitions.specs.Trace.{Given, behind, start, trace}
 use Rattle.definitions.specs.Endings.{status_of}
 use Rattle.byte_feed.specs.Feed.{Feed, fed_gives, feds, feds_text, whole_lines, lines_text}
-use Rattle.run_engine.specs.declared.feed.Fault.{Fault}
-use Rattle.run_engine.specs.declared.feed.Fault.TheVariants as faults
+use Rattle.run_engine.specs.declared.output.Fault.{Fault}
+use Rattle.run_engine.specs.declared.output.Fault.TheVariants as faults
 use Rattle.run_engine.specs.declared.pump.Cut.{Cut}
 use Rattle.run_engine.specs.declared.pump.Cut.TheVariants as cuts
 
--- what stands behind what stood, and then what the rest gives, is what all gives
+-- what stands after what stood, and then what the rest gives, is what all gives
 pub record Comes (all rest : Given) (before now : Option (List ℕ)) : Type 0 where
   pub out : List ℕ
   pub wrote : WroteIs before now out

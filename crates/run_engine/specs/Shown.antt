@@ -1,9 +1,9 @@
 -- What the definitions see of the engine.
-use Rattle.std.specs.Prelude.{◌≡◌, ℕ, ◌≤◌, List, Bool, true, false, count_by}
+use Rattle.std.specs.Prelude.{◌≡◌, ℕ, ◌≤◌, Bool, true, false, count_by, Option, Some, None}
+use Rattle.definitions.specs.declared.document.Ending.{Ending}
 use Rattle.definitions.specs.declared.document.Ending.TheVariants as ends
 use Rattle.definitions.specs.Rules.{is_any_zone}
-use Rattle.definitions.specs.Trace.{Stage, Items, Script, Over, After, Reading, input_limit}
-use Rattle.definitions.specs.declared.outcome.Outcome.{Outcome}
+use Rattle.definitions.specs.Trace.{Stage, Items, Script, Over, Reading, input_limit}
 use Rattle.run_engine.specs.declared.stage.Stage as code
 use Rattle.run_engine.specs.declared.stage.Stage.TheVariants as variants
 use Rattle.run_engine.specs.declared.stage.Reading as code_reading
@@ -13,9 +13,10 @@ stage_shown (variants.Items builder) = Items builder
 stage_shown (variants.Script system count) = Script system.line system.events count
 stage_shown (variants.Over ending) = Over ending
 
--- a stage, and the outcome lines that led to it
-abbrev pub after_shown : code.Stage → List Outcome → After
-after_shown s lines = record { stage = stage_shown s; lines = lines }
+-- a stage, once a text line has ended the document, if it did
+abbrev pub left_by : Option Ending → Stage → Stage
+left_by None s = s
+left_by (Some ending) s = Over ending
 
 abbrev pub reading_shown : code_reading.Reading → Reading
 reading_shown r = record { number = r.number; bytes = r.bytes; stage = stage_shown r.stage }

@@ -1,56 +1,111 @@
 //! A document as it comes, in pieces.
-ghost use Rattle.std.specs.Prelude.{◌≡◌, ◌+◌, ◌<◌, ◌≤◌, ◌^◌, [], IfOk, OnOk, length};
+ghost use Rattle.std.specs.Prelude.{◌≡◌, ◌+◌, ◌-◌, ◌<◌, ◌≤◌, ◌^◌, [], ◌++◌, IfOk, OnOk, length, take};
 ghost use Rattle.definitions.specs.Trace.{text_read, input_limit};
 ghost use Rattle.definitions.specs.Endings.{outcomes_text};
-ghost use Rattle.byte_feed.specs.Feed.{opened, fed, feds, feds_text, fed_gives, closed};
+ghost use Rattle.byte_feed.specs.Feed.{opened, kept_run, feds, feds_text, fed_gives, closed};
 ghost use Rattle.run_engine.specs.Shown.{reading_shown};
 ghost use Rattle.run_engine.specs.Feeding.{feed_shown, Within};
 ghost use Rattle.run_engine.specs.Does.{Does};
+ghost use Rattle.run_engine.specs.Sends.{Sends};
+ghost use Rattle.run_engine.specs.Ahead.{LiesAhead, taken};
 
+use crate::output::{Fault, ROOM, flush, give_up, send_lines};
 use crate::stage::{INPUT_LIMIT, Reading};
 use arrayvec::ArrayVec;
 use definitions::document::Ending;
 use definitions::outcome::Outcome;
-use document_text::write::{write_ending, write_outcomes};
+use document_text::write::write_ending;
+use edge_io::buffer::TextBuffer;
 use edge_io::stream::Sink;
+use memchr::memchr;
 use msg_codec::Outs;
 use std::alloc::{AllocError, Global};
 
-/// Why a document was given up.
-#[derive(Clone, Copy, PartialEq, Eq, Debug)]
-pub enum Fault {
-    Write,
-    Memory,
+/// The bytes of a text line that tell what it says: the longest that has a form, and one more.
+const TELLING: usize = 4097;
+
+/// The front of a run that fits the room.
+#[tactic(auto, using(std::proofs::lemmas::List::take_min))]
+fn front(run: &[u8], room: usize) -> &[u8]
+    ensures { result.now ≡ take room run.now }
+{
+    let (front, _) = run.split_at(room.min(run.len()));
+    front
 }
 
-/// The whole text lines so far, the front of the one that has begun, and the room for what a step and a text line give.
+/// The text line that has begun: its first bytes, and how many it has.
+#[derive(Drop)]
+struct Begun {
+    kept: ArrayVec<u8, TELLING>,
+    size: u64,
+}
+
+impl Begun {
+    /// Adds a run of bytes.
+    fn add(&mut self, run: &[u8])
+        requires { self.old.size + length run.now ≤ input_limit }
+        ensures kept { self.new.kept.items ≡ kept_run self.old.kept.items run.now }
+        ensures size { self.new.size ≡ self.old.size + length run.now }
+    {
+        let fits = front(run, self.kept.remaining_capacity());
+        let Ok(()) = self.kept.try_extend_from_slice(fits) else {
+            unreachable!()
+        };
+        self.size += run.len() as u64;
+    }
+
+    /// No text line has begun.
+    fn clear(&mut self)
+        ensures { (self.new.kept.items ≡ []) × (self.new.size ≡ 0) }
+    {
+        self.kept.clear();
+        self.size = 0;
+    }
+}
+
+/// What lies ahead in a piece.
+enum Ahead {
+    /// A text line that ends with the LF at this place.
+    Line(usize),
+
+    /// Bytes without an LF, within the limit on the input.
+    Run,
+
+    /// A text line that goes on past the limit.
+    Past,
+}
+
+/// What lies ahead in the rest of a piece, where so many bytes are left up to the limit.
+fn look_ahead(rest: &[u8], left: u64) -> Ahead
+    ensures { LiesAhead left rest.now result }
+{
+    match memchr(b'\n', rest) {
+        Some(at) => {
+            if (at as u64) < left {
+                Ahead::Line(at)
+            } else {
+                Ahead::Past
+            }
+        }
+        None => {
+            if rest.len() as u64 <= left {
+                Ahead::Run
+            } else {
+                Ahead::Past
+            }
+        }
+    }
+}
+
+/// The whole text lines so far, the text line that has begun, and the room for what a step and a text line give, and for the
+/// text that is pending inside a call.
 #[derive(Drop)]
 pub struct Feed {
     reading: Reading,
-    kept: ArrayVec<u8, 4097>,
-    size: u64,
+    begun: Begun,
     outs: Outs,
     lines: Vec<Outcome>,
-}
-
-/// The outcome lines of a text line.
-fn write_lines<K: Sink>(lines: &[Outcome], sink: &mut K) -> Result<(), Fault>
-    ensures { Does K.written K.faults sink.old sink.new (outcomes_text lines.now) result }
-{
-    match write_outcomes(lines, sink) {
-        Ok(()) => Ok(()),
-        Err(_) => Err(Fault::Write),
-    }
-}
-
-/// The last line.
-pub fn write_last<K: Sink>(ending: &Ending, sink: &mut K) -> Result<(), Fault>
-    ensures { Does K.written K.faults sink.old sink.new (Rattle.definitions.specs.Endings.ending_text ending.now) result }
-{
-    match write_ending(ending, sink) {
-        Ok(()) => Ok(()),
-        Err(_) => Err(Fault::Write),
-    }
+    pending: TextBuffer,
 }
 
 impl Feed {
@@ -61,10 +116,13 @@ impl Feed {
     {
         Ok(Feed {
             reading: Reading::start(alloc)?,
-            kept: ArrayVec::new(),
-            size: 0,
+            begun: Begun {
+                kept: ArrayVec::new(),
+                size: 0,
+            },
             outs: Outs::new(alloc)?,
             lines: Vec::new(alloc),
+            pending: TextBuffer::new(alloc, ROOM)?,
         })
     }
 
@@ -75,81 +133,192 @@ impl Feed {
         self.reading.is_over()
     }
 
-    /// The text line that has begun, of so many bytes.
-    fn line<K: Sink>(&mut self, alloc: Global, size: u64, sink: &mut K) -> Result<(), Fault>
+    /// Reads a text line of so many bytes from a piece, where none had begun. Its outcome lines stand in `lines`.
+    fn read_run(&mut self, alloc: Global, size: u64, run: &[u8]) -> Result<(), AllocError>
         requires within { Within (feed_shown self.old) }
         requires some { 1 ≤ size }
-        requires bound { size ≤ self.old.size + 1 }
-        ensures does { Does K.written K.faults sink.old sink.new (outcomes_text (text_read (reading_shown self.old.reading) size self.old.kept.items).lines) result }
-        ensures next { OnOk result (feed_shown self.new ≡ opened (text_read (reading_shown self.old.reading) size self.old.kept.items).next) }
+        requires bound { size ≤ input_limit + 1 }
+        ensures lines { OnOk result (self.new.lines.items ≡ (text_read (reading_shown self.old.reading) size (take 4097 run.now)).lines) }
+        ensures next { OnOk result (feed_shown self.new ≡ opened (text_read (reading_shown self.old.reading) size (take 4097 run.now)).next) }
         ensures within { OnOk result (Within (feed_shown self.new)) }
+        ensures same { self.new.pending ≡ self.old.pending }
     {
         self.lines.clear();
-        match self.reading.text(
+        self.begun.clear();
+        self.reading.text(
             alloc,
             size,
-            self.kept.as_slice(),
+            front(run, TELLING),
             &mut self.outs,
             &mut self.lines,
-        ) {
-            Ok(()) => {
-                self.kept.clear();
-                self.size = 0;
-                write_lines(self.lines.as_slice(), sink)
-            }
+        )
+    }
+
+    /// Reads the text line that has begun, of so many bytes. Its outcome lines stand in `lines`.
+    fn read_begun(&mut self, alloc: Global, size: u64) -> Result<(), AllocError>
+        requires within { Within (feed_shown self.old) }
+        requires some { 1 ≤ size }
+        requires bound { size ≤ input_limit + 1 }
+        ensures lines { OnOk result (self.new.lines.items ≡ (text_read (reading_shown self.old.reading) size self.old.begun.kept.items).lines) }
+        ensures next { OnOk result (feed_shown self.new ≡ opened (text_read (reading_shown self.old.reading) size self.old.begun.kept.items).next) }
+        ensures within { OnOk result (Within (feed_shown self.new)) }
+        ensures same { self.new.pending ≡ self.old.pending }
+    {
+        self.lines.clear();
+        let read = self.reading.text(
+            alloc,
+            size,
+            self.begun.kept.as_slice(),
+            &mut self.outs,
+            &mut self.lines,
+        );
+        self.begun.clear();
+        read
+    }
+
+    /// Reads the text line that ends with a run, of so many bytes. Its outcome lines stand in `lines`.
+    fn read(&mut self, alloc: Global, size: u64, run: &[u8]) -> Result<(), AllocError>
+        requires within { Within (feed_shown self.old) }
+        requires some { 1 ≤ size }
+        requires bound { size ≤ input_limit + 1 }
+        requires run { (feed_shown self.old).reading.bytes + self.old.begun.size + length run.now ≤ input_limit }
+        ensures lines { OnOk result (self.new.lines.items ≡ (text_read (reading_shown self.old.reading) size (kept_run self.old.begun.kept.items run.now)).lines) }
+        ensures next { OnOk result (feed_shown self.new ≡ opened (text_read (reading_shown self.old.reading) size (kept_run self.old.begun.kept.items run.now)).next) }
+        ensures within { OnOk result (Within (feed_shown self.new)) }
+        ensures same { self.new.pending ≡ self.old.pending }
+    {
+        if self.begun.kept.is_empty() {
+            return self.read_run(alloc, size, run);
+        }
+        self.begun.add(run);
+        self.read_begun(alloc, size)
+    }
+
+    /// The text line that ends with a run, of so many bytes.
+    fn text_line<K: Sink>(
+        &mut self,
+        alloc: Global,
+        size: u64,
+        run: &[u8],
+        sink: &mut K,
+    ) -> Result<(), Fault>
+        requires within { Within (feed_shown self.old) }
+        requires some { 1 ≤ size }
+        requires bound { size ≤ input_limit + 1 }
+        requires run { (feed_shown self.old).reading.bytes + self.old.begun.size + length run.now ≤ input_limit }
+        ensures sends { Sends K.written K.faults sink.old sink.new self.old.pending.text self.new.pending.text (outcomes_text (text_read (reading_shown self.old.reading) size (kept_run self.old.begun.kept.items run.now)).lines) result }
+        ensures next { OnOk result (feed_shown self.new ≡ opened (text_read (reading_shown self.old.reading) size (kept_run self.old.begun.kept.items run.now)).next) }
+        ensures within { OnOk result (Within (feed_shown self.new)) }
+    {
+        match self.read(alloc, size, run) {
+            Ok(()) => send_lines(self.lines.as_slice(), &mut self.pending, sink),
             Err(_) => Err(Fault::Memory),
         }
     }
 
-    /// One byte.
-    #[tactic(auto, unfolding(byte_feed::specs::Feed::fed))]
-    fn byte<K: Sink>(&mut self, alloc: Global, byte: u8, sink: &mut K) -> Result<(), Fault>
+    /// The first text line of the rest of a piece, or what there is of it: how many bytes were taken.
+    fn line<K: Sink>(&mut self, alloc: Global, rest: &[u8], sink: &mut K) -> Result<usize, Fault>
         requires within { Within (feed_shown self.old) }
-        ensures does { Does K.written K.faults sink.old sink.new (outcomes_text (fed (feed_shown self.old) byte).lines) result }
-        ensures next { OnOk result (feed_shown self.new ≡ (fed (feed_shown self.old) byte).next) }
+        requires some { 1 ≤ length rest.now }
+        ensures sends { Sends K.written K.faults sink.old sink.new self.old.pending.text self.new.pending.text (feds_text (feed_shown self.old) (taken rest.now result)) result }
+        ensures next { OnOk result (feed_shown self.new ≡ feds (feed_shown self.old) (taken rest.now result)) }
         ensures within { OnOk result (Within (feed_shown self.new)) }
+        ensures count { IfOk result (λ count. (1 ≤ count) × (count ≤ length rest.now)) }
     {
         if self.reading.is_over() {
-            return Ok(());
+            return Ok(rest.len());
         }
-        let size = self.size + 1;
-        if self.reading.bytes + size > INPUT_LIMIT || byte == b'\n' {
-            return self.line(alloc, size, sink);
+        match look_ahead(rest, INPUT_LIMIT - self.reading.bytes - self.begun.size) {
+            Ahead::Line(at) => {
+                let (run, _) = rest.split_at(at);
+                match self.text_line(alloc, self.begun.size + (at as u64 + 1), run, sink) {
+                    Ok(()) => Ok(at + 1),
+                    Err(fault) => Err(fault),
+                }
+            }
+            Ahead::Run => {
+                self.begun.add(rest);
+                Ok(rest.len())
+            }
+            Ahead::Past => {
+                match self.text_line(alloc, INPUT_LIMIT + 1 - self.reading.bytes, &[], sink) {
+                    Ok(()) => Ok(rest.len()),
+                    Err(fault) => Err(fault),
+                }
+            }
         }
-        if self.kept.len() < 4097 {
-            self.kept.push(byte);
-        }
-        self.size = size;
-        Ok(())
     }
 
-    /// A piece.
-    pub fn take<K: Sink>(&mut self, alloc: Global, piece: &[u8], sink: &mut K) -> Result<(), Fault>
+    /// The text lines of a piece.
+    fn text_lines<K: Sink>(
+        &mut self,
+        alloc: Global,
+        piece: &[u8],
+        sink: &mut K,
+    ) -> Result<(), Fault>
         requires within { Within (feed_shown self.old) }
-        ensures does { Does K.written K.faults sink.old sink.new (feds_text (feed_shown self.old) piece.now) result }
+        ensures sends { Sends K.written K.faults sink.old sink.new self.old.pending.text self.new.pending.text (feds_text (feed_shown self.old) piece.now) result }
         ensures next { OnOk result (feed_shown self.new ≡ feds (feed_shown self.old) piece.now) }
         ensures within { OnOk result (Within (feed_shown self.new)) }
     {
-        for byte in piece {
-            match self.byte(alloc, *byte, sink) {
-                Ok(()) => {}
+        let mut done = 0;
+        while done < piece.len() {
+            let (_, rest) = piece.split_at(done);
+            match self.line(alloc, rest, sink) {
+                Ok(count) => done += count,
                 Err(fault) => return Err(fault),
             }
         }
         Ok(())
     }
 
+    /// A piece. The text lines that end in it are written in one call of the sink, and one more for each 64 KB of text, where
+    /// the sink takes whole pieces.
+    pub fn take<K: Sink>(&mut self, alloc: Global, piece: &[u8], sink: &mut K) -> Result<(), Fault>
+        requires within { Within (feed_shown self.old) }
+        ensures does { Does K.written K.faults sink.old sink.new (feds_text (feed_shown self.old) piece.now) result }
+        ensures next { OnOk result (feed_shown self.new ≡ feds (feed_shown self.old) piece.now) }
+        ensures within { OnOk result (Within (feed_shown self.new)) }
+    {
+        self.pending.clear();
+        match self.text_lines(alloc, piece, sink) {
+            Ok(()) => match flush(&mut self.pending, sink) {
+                Ok(()) => Ok(()),
+                Err(_) => Err(Fault::Write),
+            },
+            Err(fault) => Err(give_up(fault, &mut self.pending, sink)),
+        }
+    }
+
     /// What has begun, as the last text line.
     fn close<K: Sink>(&mut self, alloc: Global, sink: &mut K) -> Result<(), Fault>
         requires within { Within (feed_shown self.old) }
-        ensures does { Does K.written K.faults sink.old sink.new (outcomes_text (closed (feed_shown self.old)).lines) result }
+        ensures sends { Sends K.written K.faults sink.old sink.new self.old.pending.text self.new.pending.text (outcomes_text (closed (feed_shown self.old)).lines) result }
         ensures next { OnOk result (reading_shown self.new.reading ≡ (closed (feed_shown self.old)).next) }
         ensures within { OnOk result (Within (feed_shown self.new)) }
     {
-        if self.size == 0 {
+        if self.begun.size == 0 {
             return Ok(());
         }
-        self.line(alloc, self.size, sink)
+        self.text_line(alloc, self.begun.size, &[], sink)
+    }
+
+    /// The outcome lines of what has begun, and the last line.
+    fn last_lines<K: Sink>(&mut self, alloc: Global, sink: &mut K) -> Result<Ending, Fault>
+        requires within { Within (feed_shown self.old) }
+        ensures sends { Sends K.written K.faults sink.old sink.new self.old.pending.text self.new.pending.text (fed_gives (feed_shown self.old) []).text result }
+        ensures ending { IfOk result (λ e. e ≡ (fed_gives (feed_shown self.old) []).ending) }
+    {
+        match self.close(alloc, sink) {
+            Ok(()) => {
+                let ending = self.reading.end();
+                match write_ending(&ending, &mut self.pending) {
+                    Ok(()) => Ok(ending),
+                    Err(_) => Err(Fault::Memory),
+                }
+            }
+            Err(fault) => Err(fault),
+        }
     }
 
     /// The end of the input.
@@ -158,15 +327,13 @@ impl Feed {
         ensures does { Does K.written K.faults sink.old sink.new (fed_gives (feed_shown self.old) []).text result }
         ensures ending { IfOk result (λ e. e ≡ (fed_gives (feed_shown self.old) []).ending) }
     {
-        match self.close(alloc, sink) {
-            Ok(()) => {
-                let ending = self.reading.end();
-                match write_last(&ending, sink) {
-                    Ok(()) => Ok(ending),
-                    Err(fault) => Err(fault),
-                }
-            }
-            Err(fault) => Err(fault),
+        self.pending.clear();
+        match self.last_lines(alloc, sink) {
+            Ok(ending) => match flush(&mut self.pending, sink) {
+                Ok(()) => Ok(ending),
+                Err(_) => Err(Fault::Write),
+            },
+            Err(fault) => Err(give_up(fault, &mut self.pending, sink)),
         }
     }
 }

@@ -7,7 +7,8 @@ ghost use Rattle.document_laws.specs.Throughout.{SafeThroughout};
 ghost use Rattle.run_engine.specs.Complete.{Complete, RefusesDocument};
 ghost use Rattle.run_engine.specs.Running.{AtEnd, AtStop, Midway, Pumped, PumpCauses, Ran, ReadCut, Causes, cut_of, status_of_cut};
 
-use crate::feed::{Fault, Feed};
+use crate::feed::Feed;
+use crate::output::Fault;
 use crate::stage::status;
 use edge_io::status::Status;
 use edge_io::stream::{Got, Sink, Source};
@@ -21,7 +22,7 @@ pub enum Cut {
     Memory,
 }
 
-pub fn cut_by(fault: Fault) -> Cut
+fn cut_by(fault: Fault) -> Cut
     ensures { result ≡ cut_of fault }
 {
     match fault {
@@ -30,7 +31,7 @@ pub fn cut_by(fault: Fault) -> Cut
     }
 }
 
-pub fn cut_status(cut: Cut) -> Status
+fn cut_status(cut: Cut) -> Status
     ensures { result ≡ status_of_cut cut }
 {
     match cut {
@@ -55,7 +56,7 @@ fn pump<S: Source, K: Sink>(
     ensures within { OnOk result (Within (feed_shown feed.new)) }
     ensures ended { OnOk result (is_over (feed_shown feed.new).reading.stage ≡ false → AtEnd (S.left src.new)) }
 {
-    let mut buf = [0u8; 4096];
+    let mut buf = [0u8; 65536];
     for turn in 0..u64::MAX {
         match src.read(&mut buf) {
             Got::Bytes(n) => {
@@ -77,16 +78,15 @@ fn pump<S: Source, K: Sink>(
 }
 
 /// Writes what the source's bytes give, from their start.
-fn run_from<S: Source, K: Sink>(alloc: Global, feed: Feed, src: &mut S, sink: &mut K) -> Status
-    requires start { feed_shown feed ≡ opened Rattle.definitions.specs.Trace.start }
-    requires within { Within (feed_shown feed) }
+fn run_from<S: Source, K: Sink>(alloc: Global, feed: &mut Feed, src: &mut S, sink: &mut K) -> Status
+    requires start { feed_shown feed.old ≡ opened Rattle.definitions.specs.Trace.start }
+    requires within { Within (feed_shown feed.old) }
     ensures ran { Ran result (S.left src.old) (K.written sink.old) (K.written sink.new) }
     ensures read { ReadCut result (S.left src.old) (S.left src.new) (K.written sink.old) (K.written sink.new) }
     ensures causes { Causes result (S.faults src.old) (S.faults src.new) (K.faults sink.old) (K.faults sink.new) }
     ensures ended { result ≡ Status.Done → AtEnd (S.left src.new) }
 {
-    let mut feed = feed;
-    match pump(alloc, &mut feed, src, sink) {
+    match pump(alloc, feed, src, sink) {
         Ok(()) => match feed.end(alloc, sink) {
             Ok(ending) => status(&ending),
             Err(fault) => cut_status(cut_by(fault)),
@@ -107,7 +107,7 @@ pub fn run<S: Source, K: Sink>(alloc: Global, src: &mut S, sink: &mut K) -> Stat
     ensures safe { IfSome (S.left src.old) SafeThroughout }
 {
     match Feed::start(alloc) {
-        Ok(feed) => run_from(alloc, feed, src, sink),
+        Ok(mut feed) => run_from(alloc, &mut feed, src, sink),
         Err(_) => Status::Memory,
     }
 }

@@ -1,11 +1,11 @@
 //! Where a document stands between two text lines.
 ghost use Rattle.std.specs.Prelude.{◌≡◌, [], ◌+◌, ◌-◌, ◌<◌, ◌≤◌, ◌^◌, false, IfOk, OnOk, length, count_by};
 ghost use Rattle.definitions.specs.Rules.{is_any_zone, rule_of, finish_rule};
-ghost use Rattle.definitions.specs.Trace.{second_zone, item_read, script_read, event_read, stage_read, stage_ends, text_read, input_limit};
+ghost use Rattle.definitions.specs.Trace.{Items, Script, is_over, quiet, second_zone, item_read, script_read, event_read, stage_read, stage_ends, text_read, input_limit};
 ghost use Rattle.definitions.specs.Steps.{story_of};
 ghost use Rattle.definitions.specs.Endings.{status_of};
 ghost use Rattle.run_engine.specs.Faults.{Refuses};
-ghost use Rattle.run_engine.specs.Shown.{stage_shown, after_shown, reading_shown, Small, Steady};
+ghost use Rattle.run_engine.specs.Shown.{stage_shown, left_by, reading_shown, Small, Steady};
 
 use definitions::document::{Ending, TextLine};
 use definitions::event::Event;
@@ -30,7 +30,7 @@ pub enum Stage {
     Over(Ending),
 }
 
-/// Whether an item is a zone behind another one.
+/// Whether an item is a zone after another one.
 fn is_second(builder: &LineBuilder, item: &Item) -> bool
     ensures { result ≡ second_zone builder.now item.now }
 {
@@ -40,101 +40,161 @@ fn is_second(builder: &LineBuilder, item: &Item) -> bool
     }
 }
 
-/// The stage behind a fault of the line at text line n.
-fn refused(n: u64, fault: LineFault) -> Result<Stage, AllocError>
+/// How a fault of the line at text line n ends the document.
+fn refused(n: u64, fault: LineFault) -> Result<Option<Ending>, AllocError>
     ensures { Refuses n fault result }
 {
     match fault {
-        LineFault::Rule(rule) => Ok(Stage::Over(Ending::Rule(n, rule))),
+        LineFault::Rule(rule) => Ok(Some(Ending::Rule(n, rule))),
         LineFault::Memory => Err(AllocError),
     }
 }
 
-/// Text line n is an item.
-fn read_item(n: u64, builder: LineBuilder, item: Item) -> Result<Stage, AllocError>
-    ensures { IfOk result (λ s. stage_shown s ≡ item_read n builder item (second_zone builder item) (rule_of builder item)) }
+/// Adds an item, which text line n is: what ends the document there, if anything.
+fn add_item(n: u64, builder: &mut LineBuilder, item: &Item) -> Result<Option<Ending>, AllocError>
+    ensures { IfOk result (λ ending. left_by ending (Items builder.new) ≡ item_read n builder.old item.now (second_zone builder.old item.now) (rule_of builder.old item.now)) }
 {
-    if is_second(&builder, &item) {
-        return Ok(Stage::Over(Ending::Unbuilt(n)));
+    if is_second(builder, item) {
+        return Ok(Some(Ending::Unbuilt(n)));
     }
-    let mut builder = builder;
-    match builder.add(&item) {
-        Ok(()) => Ok(Stage::Items(builder)),
+    match builder.add(item) {
+        Ok(()) => Ok(None),
         Err(fault) => refused(n, fault),
     }
 }
 
-/// Text line n begins the script.
-fn read_script(alloc: Global, n: u64, builder: LineBuilder) -> Result<Stage, AllocError>
+/// Begins the script of a line of these items, at text line n: what ends the document there, if anything.
+fn begin_script(
+    alloc: Global,
+    n: u64,
+    builder: LineBuilder,
+    stage: &mut Stage,
+) -> Result<Option<Ending>, AllocError>
     requires one { count_by is_any_zone builder ≤ 1 }
-    ensures { IfOk result (λ s. stage_shown s ≡ script_read n builder (finish_rule builder)) }
+    ensures { IfOk result (λ ending. left_by ending (stage_shown stage.new) ≡ script_read n builder (finish_rule builder)) }
 {
     match builder.finish() {
-        Ok(line) => Ok(Stage::Script(System::start(alloc, line)?, 0)),
+        Ok(line) => {
+            *stage = Stage::Script(System::start(alloc, line)?, 0);
+            Ok(None)
+        }
         Err(fault) => refused(n, fault),
     }
 }
 
-/// Text line n is an event behind so many. Its outcome lines are added to `lines`, which is empty; `outs` is room for what one
-/// step gives.
-fn read_event(
+/// An event of the script at text line n, after so many. Its outcome lines are added to `lines`, which is empty; `outs` is
+/// room for what one step gives. What ends the document there, if anything.
+fn run_event(
     n: u64,
-    system: System,
-    count: u64,
-    event: Event,
+    system: &mut System,
+    count: &mut u64,
+    event: &Event,
     outs: &mut Outs,
     lines: &mut Vec<Outcome>,
-) -> Result<Stage, AllocError>
-    requires small { count + 1 < 2 ^ 64 }
+) -> Result<Option<Ending>, AllocError>
+    requires small { count.old + 1 < 2 ^ 64 }
     requires empty { lines.old.items ≡ [] }
-    ensures { IfOk result (λ s. after_shown s lines.new.items ≡ event_read n system.line system.events count (story_of system.line system.events) event) }
+    ensures { IfOk result (λ ending. record { stage = left_by ending (Script system.new.line system.new.events count.new); lines = lines.new.items } ≡ event_read n system.old.line system.old.events count.old (story_of system.old.line system.old.events) event.now) }
 {
     match system.read(event, outs, lines)? {
-        Answer::Unbuilt => Ok(Stage::Over(Ending::Unbuilt(n))),
-        Answer::TooMany => Ok(Stage::Over(Ending::Trains)),
-        Answer::Premise(premise) => Ok(Stage::Over(Ending::Premise(n, premise))),
-        Answer::Goes(next) => Ok(Stage::Script(next, count + 1)),
+        Answer::Unbuilt => Ok(Some(Ending::Unbuilt(n))),
+        Answer::TooMany => Ok(Some(Ending::Trains)),
+        Answer::Premise(premise) => Ok(Some(Ending::Premise(n, premise))),
+        Answer::Goes => {
+            *count += 1;
+            Ok(None)
+        }
     }
 }
 
-/// Text line n, which says this.
+/// Text line n is an item.
+#[tactic(auto, unfolding(definitions::specs::Trace::stage_read))]
+fn read_item(n: u64, stage: &mut Stage, item: &Item) -> Result<Option<Ending>, AllocError>
+    requires { is_over (stage_shown stage.old) ≡ false }
+    ensures { IfOk result (λ ending. quiet (left_by ending (stage_shown stage.new)) ≡ stage_read n (stage_shown stage.old) (TextLine.Item item.now)) }
+{
+    match stage {
+        Stage::Items(builder) => add_item(n, builder, item),
+        Stage::Script(_, _) => Ok(Some(Ending::Unbuilt(n))),
+        Stage::Over(_) => unreachable!(),
+    }
+}
+
+/// Text line n is the word that begins the script.
+#[tactic(auto, unfolding(definitions::specs::Trace::stage_read))]
+fn read_script(alloc: Global, n: u64, stage: &mut Stage) -> Result<Option<Ending>, AllocError>
+    requires on { is_over (stage_shown stage.old) ≡ false }
+    requires steady { Steady (n - 1) (stage_shown stage.old) }
+    ensures { IfOk result (λ ending. quiet (left_by ending (stage_shown stage.new)) ≡ stage_read n (stage_shown stage.old) TextLine.Script) }
+{
+    match mem::replace(stage, Stage::Over(Ending::Input)) {
+        Stage::Items(builder) => begin_script(alloc, n, builder, stage),
+        Stage::Script(_, _) => Ok(Some(Ending::Unbuilt(n))),
+        Stage::Over(_) => unreachable!(),
+    }
+}
+
+/// Text line n is an event. Its outcome lines are added to `lines`, which is empty; `outs` is room for what one step gives.
+#[tactic(auto, unfolding(definitions::specs::Trace::stage_read))]
+fn read_event(
+    n: u64,
+    stage: &mut Stage,
+    event: &Event,
+    outs: &mut Outs,
+    lines: &mut Vec<Outcome>,
+) -> Result<Option<Ending>, AllocError>
+    requires on { is_over (stage_shown stage.old) ≡ false }
+    requires steady { Steady (n - 1) (stage_shown stage.old) }
+    requires small { n ≤ input_limit + 1 }
+    requires empty { lines.old.items ≡ [] }
+    ensures { IfOk result (λ ending. record { stage = left_by ending (stage_shown stage.new); lines = lines.new.items } ≡ stage_read n (stage_shown stage.old) (TextLine.Event event.now)) }
+{
+    match stage {
+        Stage::Items(_) => Ok(Some(Ending::Unbuilt(n))),
+        Stage::Script(system, count) => run_event(n, system, count, event, outs, lines),
+        Stage::Over(_) => unreachable!(),
+    }
+}
+
+/// Text line n, which says this: what ends the document there, if anything. A stage that is ended may be spent.
 #[tactic(auto, unfolding(definitions::specs::Trace::stage_read))]
 fn read(
     alloc: Global,
     n: u64,
-    stage: Stage,
-    says: TextLine,
+    stage: &mut Stage,
+    says: &TextLine,
     outs: &mut Outs,
     lines: &mut Vec<Outcome>,
-) -> Result<Stage, AllocError>
-    requires steady { Steady (n - 1) (stage_shown stage) }
+) -> Result<Option<Ending>, AllocError>
+    requires on { is_over (stage_shown stage.old) ≡ false }
+    requires steady { Steady (n - 1) (stage_shown stage.old) }
     requires small { n ≤ input_limit + 1 }
     requires empty { lines.old.items ≡ [] }
-    ensures { IfOk result (λ s. after_shown s lines.new.items ≡ stage_read n (stage_shown stage) says) }
+    ensures { IfOk result (λ ending. record { stage = left_by ending (stage_shown stage.new); lines = lines.new.items } ≡ stage_read n (stage_shown stage.old) says.now) }
 {
-    match stage {
-        Stage::Over(ending) => Ok(Stage::Over(ending)),
-        Stage::Items(builder) => match says {
-            TextLine::Passed => Ok(Stage::Items(builder)),
-            TextLine::Item(item) => read_item(n, builder, item),
-            TextLine::Script => read_script(alloc, n, builder),
-            TextLine::Event(_) | TextLine::Strange => Ok(Stage::Over(Ending::Unbuilt(n))),
-        },
-        Stage::Script(system, count) => match says {
-            TextLine::Passed => Ok(Stage::Script(system, count)),
-            TextLine::Event(event) => read_event(n, system, count, event, outs, lines),
-            TextLine::Item(_) | TextLine::Script | TextLine::Strange => Ok(Stage::Over(
-                Ending::Unbuilt(n),
-            )),
-        },
+    match says {
+        TextLine::Passed => Ok(None),
+        TextLine::Item(item) => read_item(n, stage, item),
+        TextLine::Script => read_script(alloc, n, stage),
+        TextLine::Event(event) => read_event(n, stage, event, outs, lines),
+        TextLine::Strange => Ok(Some(Ending::Unbuilt(n))),
     }
 }
 
-/// How a document ends behind its items whose last text line is line n.
+/// The document is over where there is an ending.
+fn end_by(stage: &mut Stage, ending: Option<Ending>)
+    ensures { stage_shown stage.new ≡ left_by ending (stage_shown stage.old) }
+{
+    if let Some(ending) = ending {
+        *stage = Stage::Over(ending);
+    }
+}
+
+/// How a document ends after its items whose last text line is line n.
 #[tactic(auto, unfolding(definitions::specs::Trace::stage_ends))]
 fn items_end(n: u64, builder: LineBuilder) -> Ending
     requires { n + 1 < 2 ^ 64 }
-    ensures { result ≡ stage_ends n (Rattle.definitions.specs.Trace.Items builder) }
+    ensures { result ≡ stage_ends n (Items builder) }
 {
     match builder.finish() {
         Ok(_) => Ending::Done(0),
@@ -195,7 +255,7 @@ impl Reading {
 
     /// Whether a text line has given an answer.
     pub fn is_over(&self) -> bool
-        ensures { result ≡ Rattle.definitions.specs.Trace.is_over (stage_shown self.now.stage) }
+        ensures { result ≡ is_over (stage_shown self.now.stage) }
     {
         match &self.stage {
             Stage::Over(_) => true,
@@ -205,7 +265,7 @@ impl Reading {
     }
 
     /// One text line of so many bytes. Its outcome lines are added to `lines`, which is empty; `outs` is room for what one step
-    /// gives. Behind want of memory the stage is spent.
+    /// gives. After want of memory the document is to be given up.
     #[tactic(auto, unfolding(definitions::specs::Trace::text_read))]
     pub fn text(
         &mut self,
@@ -230,11 +290,12 @@ impl Reading {
             self.stage = Stage::Over(Ending::Input);
             return Ok(());
         }
-        let stage = mem::replace(&mut self.stage, Stage::Over(Ending::Input));
-        let stage = read(alloc, self.number + 1, stage, text_line(text), outs, lines)?;
+        let mut says = TextLine::Passed;
+        text_line(text, &mut says);
+        let ending = read(alloc, self.number + 1, &mut self.stage, &says, outs, lines)?;
+        end_by(&mut self.stage, ending);
         self.number += 1;
         self.bytes += size;
-        self.stage = stage;
         Ok(())
     }
 

@@ -4,9 +4,8 @@ ghost use Rattle.definitions.specs.declared.document.Ending.TheVariants.{Usage};
 ghost use Rattle.definitions.specs.Trace.{ended};
 ghost use Rattle.run_engine.specs.Running.{Gave, Causes};
 
-use crate::feed::write_last;
-use crate::pump::{cut_by, cut_status};
 use definitions::document::Ending;
+use document_text::write::write_ending;
 use edge_io::status::Status;
 use edge_io::stream::Sink;
 
@@ -16,8 +15,8 @@ pub fn usage<K: Sink>(sink: &mut K) -> Status
     ensures other { result ≡ Status.Done → ⊥ }
     ensures causes { Causes result 0 0 (K.faults sink.old) (K.faults sink.new) }
 {
-    match write_last(&Ending::Usage, sink) {
+    match write_ending(&Ending::Usage, sink) {
         Ok(()) => Status::Usage,
-        Err(fault) => cut_status(cut_by(fault)),
+        Err(_) => Status::Write,
     }
 }

@@ -17,7 +17,7 @@ use Rattle.way_laws.proofs.Cut.{cut_total}
 use Rattle.way_laws.proofs.Between_places.{behind_least}
 use Rattle.invariant_laws.proofs.Invariant.{ControlIs, Invariant}
 use Rattle.invariant_laws.proofs.One_route.{OneRoute, one_route, path_parts, on_controls, journey_few}
-use Rattle.safe_laws.proofs.Ways_held.{rear_behind}
+use Rattle.safe_laws.proofs.Held_points.{rear_behind}
 
 module _ (line : Line) (t : ℕ) (s : Story) (l : IsLineOfOneZone line) (invariant : Invariant line t s) (on : entered t s ≡ true) (numbers : last_issued t s < 2 ^ 27) where
   abbrev len : Lengths

@@ -28,7 +28,7 @@ use Rattle.invariant_laws.proofs.Invariant.{end_read, AuthorityIs, AuthIs, AuthT
 use Rattle.invariant_laws.proofs.One_route.{numbered_controls}
 use Rattle.authority_laws.proofs.Auth_places.{off_before, first_is_stays}
 use Rattle.event_laws.proofs.Last_issued.{last_quiet, last_grows}
-use Rattle.front_laws.proofs.Unshrunk.{counted_unanswered}
+use Rattle.front_laws.proofs.Account_moves.{counted_unanswered}
 use Rattle.authority_laws.proofs.Auth_new.{NewAuth, never}
 use Rattle.authority_laws.proofs.Auth_next.{last_new, new_top, reads_new, read_new, new_is, control_new}
 use Rattle.authority_laws.proofs.Auth_quiet.{unshrunk_quiet, unread_quiet, Going, AuthsStay, reads_still, quiet_stay, new_stay, held_stays, auths_stay, none_true, control_quiet}
@@ -36,7 +36,7 @@ use Rattle.front_laws.proofs.Route_goes_on.{read_stays}
 use Rattle.step_laws.proofs.Auth_issues.{Issues, quiet, issues}
 use Rattle.event_laws.proofs.Grants.{quiet_grants}
 use Rattle.step_laws.proofs.Auth_taken.{TakenIs, AnswerIs}
-use Rattle.step_laws.proofs.Auth_limit.{limit_comes, limit_goes}
+use Rattle.step_laws.proofs.Limit_stays.{limit_comes, limit_goes}
 use Rattle.authority_laws.proofs.Rear_grows.{rear_grows}
 
 -- A declared train has a length.

@@ -18,7 +18,7 @@ use Rattle.definitions.specs.Zones.{zone_id}
 use Rattle.event_laws.proofs.Notions.{number_most}
 use Rattle.event_laws.proofs.Admitted.{Admitted}
 use Rattle.invariant_laws.proofs.Invariant.{RequestTrue, AuthIs, AuthTrue, Authorized}
-use Rattle.front_laws.proofs.Unshrunk.{answers}
+use Rattle.front_laws.proofs.Account_moves.{answers}
 use Rattle.event_laws.proofs.Answers.{world_none}
 use Rattle.event_laws.proofs.Does.{by_does, take_actors, take_issued}
 use Rattle.step_laws.proofs.Auth_takes.{taker_is}

@@ -19,7 +19,7 @@ use Rattle.invariant_laws.proofs.Invariant.{RequestTrue, Authorized, Invariant}
 use Rattle.event_laws.proofs.Last_issued.{last_grows}
 use Rattle.authority_laws.proofs.Auth_new.{counted_next}
 use Rattle.authority_laws.proofs.Auth_quiet.{Going}
-use Rattle.step_laws.proofs.Auth_limit.{going, number_grows}
+use Rattle.step_laws.proofs.Limit_stays.{going, number_grows}
 use Rattle.step_laws.proofs.Auth_requests.{requests_stay, effect_requests}
 use Rattle.step_laws.proofs.Auth_issues.{Issues}
 use Rattle.step_laws.proofs.Auth_takes.{effect_issues}

@@ -1,4 +1,4 @@
-//! Tests of the system behind worked scripts, over the library that reads them.
+//! Tests of the system after worked scripts, over the library that reads them.
 #![tactic(auto)]
 
 #[cfg(test)]

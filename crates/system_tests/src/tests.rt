@@ -1,4 +1,4 @@
-//! What a system shows of its zone behind a worked script.
+//! What a system shows of its zone after a worked script.
 ghost use Rattle.std.specs.Prelude.{◌≡◌, IfSome};
 ghost use Rattle.track_points.specs.Points.{Point};
 ghost use Rattle.track_points.specs.Sets.{set_has};
@@ -76,7 +76,7 @@ fn read(
     }
 }
 
-/// The system behind a document's text lines.
+/// The system after a document's text lines.
 fn system_behind(rt: &impl Abort, alloc: Global, texts: &[&str]) -> System {
     let Ok(mut outs) = Outs::new(alloc) else {
         panic!(rt; "want of memory");

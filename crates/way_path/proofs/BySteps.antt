@@ -74,7 +74,7 @@ pub mm_below : (len : ℕ) (d : Dir) (mm : ℕ) → mm < len → mm_at len d mm 
 mm_below len Up mm h = h
 mm_below len Down mm h = omega arith
 
--- behind the segment's end a step has nothing
+-- beyond the segment's end a step has nothing
 pub step_min : (len : ℕ) (step : DirSeg) (from to s mm : ℕ) → step_has len step from (min to len) s mm ≡ step_has len step from to s mm
 step_min len step from to s mm = by_test (nat_lt mm len)
     (λ y. let b = mm_below len step.dir mm (grind (arith, nat_tests)) in

@@ -115,7 +115,7 @@ pub once_none : no_segment_twice [] ≡ true
 unfolding no_segment_twice
 once_none = refl
 
--- the first step, and those behind it
+-- the first step, and those after it
 pub rest_is : (steps : List DirSeg) (d : DirSeg) → 1 ≤ length steps → steps ≡ get_or steps 0 d ∷ take (length steps - 1) (drop 1 steps)
 rest_is [] d h = absurd (omega arith)
 rest_is (st ∷ steps) d h = ap (λ xs. st ∷ xs) (sym (take_all (length (st ∷ steps) - 1) steps (omega arith)))

@@ -1,6 +1,7 @@
 -- A head that goes on along the track.
 use Rattle.std.proofs.Common.{◌≡◌, ℕ, zero, suc, ◌+◌, ◌-◌, ◌<◌, ◌≤◌, ◌^◌, true, false, List, [], ◌∷◌, length, refl, sym, ap, subst, ◌∙◌, arith, nat_eq, nat_le, Option, Some, None}
 use Rattle.std.proofs.lemmas.Bool.Decides.{nat_tests}
+use Rattle.std.specs.Prelude.{is_some}
 use Rattle.list_laws.proofs.Tests.{by_test}
 use Rattle.track_points.specs.declared.ids.DirSeg.{DirSeg}
 use Rattle.track_points.specs.Points.{Lengths, total, steps_to}
@@ -16,7 +17,7 @@ use Rattle.way_laws.proofs.Track.{next_follows}
 use Rattle.way_laws.proofs.Route.{journey_any}
 use Rattle.world_sim.specs.World.{Reaches, IsHeadOn, moved_to}
 
--- what is behind a step
+-- what follows a step
 pub next_there : (next : Option DirSeg) (b : DirSeg) → AfterIs next (Plain b) → next ≡ Some b
 next_there None b h = absurd h
 next_there (Some a) b h = ap (λ x. Some x) h
@@ -99,7 +100,7 @@ none_behind : (line : Line) (n : ℕ) → total (seg_len line) (track_from line 
 unfolding total track_from
 none_behind line n = refl
 
--- track that reaches beyond a step goes on behind it
+-- track that reaches beyond a step goes on after it
 reach_by : (line : Line) (st b : DirSeg) (mark p n : ℕ) → p ≤ total (seg_len line) (track_from line (Some st) n) → mark + n < 2 ^ 32 → next_step line st ≡ Some b
     → seg_len line st.seg.0 < p → Reaches line b (mark + 1) (p - seg_len line st.seg.0)
 reach_by line st b mark p zero w m e h = let z = none_from line (Some st) in absurd (omega arith)
@@ -166,17 +167,25 @@ pub keeps : (line : Line) (st : DirSeg) (mark p more : ℕ) → is_line line ≡
     → IsHeadOn line more (moved_to line st mark p)
 keeps line st mark p more valid on h r = keeps_by line st mark p more r.steps valid on h r.within r.marks
 
--- what a turn of the walk needs and gives, by the length that the code has
-pub turn_needs : (line : Line) (st b : DirSeg) (mark p n : ℕ) → n ≡ seg_len line st.seg.0 → n < p → is_line line ≡ true → on_line line st ≡ true
-    → AfterIs (next_step line st) (Plain b) → Reaches line st mark p → (is_line line ≡ true) × ((on_line line b ≡ true) × Reaches line b (mark + 1) (p - n))
-turn_needs line st b mark p n e h valid on a r =
-    let next = next_there (next_step line st) b a in
-    (valid, (next_declared line st b valid on next, rw e (reach_on line st b mark p r next (omega arith))))
+-- a place of the track from a step on, which is the same as one from the first step on
+pub record Stands (line : Line) (first : DirSeg) (before p : ℕ) (st : DirSeg) (mark q : ℕ) : Type 0 where
+  pub declared : on_line line st ≡ true
+  pub track : Reaches line st mark q
+  pub same : moved_to line st mark q ≡ moved_to line first before p
 
-pub turn_gives : (line : Line) (st b : DirSeg) (mark p n : ℕ) (head : Head) → n ≡ seg_len line st.seg.0 → 1 ≤ n → n < p → is_line line ≡ true → on_line line st ≡ true
-    → AfterIs (next_step line st) (Plain b) → head ≡ moved_to line b (mark + 1) (p - n) → head ≡ moved_to line st mark p
-turn_gives line st b mark p n head e long h valid on a same =
-    same ∙ ap (λ m. moved_to line b (mark + 1) (p - m)) e ∙ goes_on line st b mark p valid on (next_there (next_step line st) b a) (omega arith) (omega arith)
+pub stands_first : (line : Line) (st : DirSeg) (mark p : ℕ) → on_line line st ≡ true → Reaches line st mark p → Stands line st mark p st mark p
+stands_first line st mark p on r = record { declared = on; track = r; same = refl }
 
-pub no_turn : (line : Line) (st : DirSeg) (mark p n : ℕ) → n ≡ seg_len line st.seg.0 → n < p → Reaches line st mark p → next_step line st ≡ None → ⊥
-no_turn line st mark p n e h r next = reach_no_more line st mark p r next (omega arith)
+-- beyond the end of a step the next one follows
+pub followed : (line : Line) (first : DirSeg) (before p : ℕ) (st : DirSeg) (mark q : ℕ) → Stands line first before p st mark q → seg_len line st.seg.0 < q → is_some (next_step line st) ≡ true
+followed line first before p st mark q s h = by_next (next_step line st)
+    (λ e. absurd (reach_no_more line st mark q s.track e h))
+    (λ b e. rw e refl)
+
+pub stands_on : (line : Line) (first : DirSeg) (before p : ℕ) (st b : DirSeg) (mark q n : ℕ) → is_line line ≡ true → Stands line first before p st mark q → n ≡ seg_len line st.seg.0 → 1 ≤ n → n < q
+    → next_step line st ≡ Some b → Stands line first before p b (mark + 1) (q - n)
+stands_on line first before p st b mark q n valid s e long h next = rw e (record {
+  declared = next_declared line st b valid s.declared next;
+  track = reach_on line st b mark q s.track next (omega arith);
+  same = goes_on line st b mark q valid s.declared next (omega arith) (omega arith) ∙ s.same;
+})

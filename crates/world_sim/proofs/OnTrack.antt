@@ -19,7 +19,7 @@ use Rattle.definitions.specs.Ways.{chained, first_len, path_in_range}
 use Rattle.plain_state.specs.declared.EntryAuthority.{EntryAuthority}
 use Rattle.plain_state.specs.declared.Head.{Head}
 use Rattle.plain_state.specs.declared.WorldTrain.{WorldTrain}
-use Rattle.plain_state.specs.World.{asked_at_portal, head_at_entry, kept_limit, come_on, moved_on, moved_train, authority_if_first, room_on, took_by, auth_fits, alone_on, covers_portal, is_step_at, lies_on, heeded_by}
+use Rattle.plain_state.specs.World.{asked_at_portal, head_at_entry, kept_limit, come_on, moved_on, moved_train, authority_if_first, room_on, took_by, auth_fits, alone_on, covers_portal, is_step_at, lies_on, acted_on_by}
 use Rattle.way_laws.proofs.Cut.{last_place, total_append}
 use Rattle.way_laws.proofs.Joined.{chained_rest}
 use Rattle.way_laws.proofs.Track.{track_joined}
@@ -197,14 +197,14 @@ takes_entry line long entry (Some authority) path from number mark fits h e = e
 -- an authority that is acted on
 
 takes_on : (line : Line) (from number mark : ℕ) (path : Path) (x : WorldTrain) (head : Option Head) → is_line line ≡ true → auth_fits line mark path ≡ true
-    → heeded_by (seg_len line) x head number mark path ≡ true → EntryIs line x.train_length x.entry x.authority → 0 < x.train_length → HeadIs line x.room head → x.head ≡ head
+    → acted_on_by (seg_len line) x head number mark path ≡ true → EntryIs line x.train_length x.entry x.authority → 0 < x.train_length → HeadIs line x.room head → x.head ≡ head
     → IsTrainOn line (took_by (seg_len line) from number mark path head x)
-takes_on line from number mark path x None valid fits heeded entry long head e = record {
+takes_on line from number mark path x None valid fits acted_on entry long head e = record {
   long = long;
-  entry = takes_entry line x.train_length x.entry x.authority path from number mark (fits_range line mark path fits) heeded entry;
+  entry = takes_entry line x.train_length x.entry x.authority path from number mark (fits_range line mark path fits) acted_on entry;
   head = rw e tt;
 }
-takes_on line from number mark path x (Some h) valid fits heeded entry long head e = by_test (nat_lt x.last number)
+takes_on line from number mark path x (Some h) valid fits acted_on entry long head e = by_test (nat_lt x.last number)
     (λ y.
     let lies : lies_on (seg_len line) mark path h ≡ true = grind (arith, nat_tests) in
     rw y (record {
@@ -215,5 +215,5 @@ takes_on line from number mark path x (Some h) valid fits heeded entry long head
     (λ n. rw n (record { long = long; entry = entry; head = rw e head }))
 
 pub takes : (line : Line) (from number mark : ℕ) (path : Path) (x : WorldTrain) → is_line line ≡ true → auth_fits line mark path ≡ true
-    → heeded_by (seg_len line) x x.head number mark path ≡ true → IsTrainOn line x → IsTrainOn line (took_by (seg_len line) from number mark path x.head x)
-takes line from number mark path x valid fits heeded on = takes_on line from number mark path x x.head valid fits heeded on.entry on.long on.head refl
+    → acted_on_by (seg_len line) x x.head number mark path ≡ true → IsTrainOn line x → IsTrainOn line (took_by (seg_len line) from number mark path x.head x)
+takes line from number mark path x valid fits acted_on on = takes_on line from number mark path x x.head valid fits acted_on on.entry on.long on.head refl

@@ -1,13 +1,13 @@
 -- The world's trains stay on its line.
-use Rattle.std.proofs.Common.{◌≡◌, ℕ, ◌≤◌, ◌-◌, true, not, List, [], ◌∷◌, length, take, drop, get_or, refl, sym, ap, arith, nat_le, nat_lt, Option, Some, None}
+use Rattle.std.proofs.Common.{◌≡◌, ℕ, suc, ◌<◌, ◌≤◌, ◌+◌, Bool, true, not, List, [], ◌∷◌, length, drop, get_or, refl, sym, arith, nat_le, nat_lt, Option, Some, None, if◌then◌else◌, false, add-one, drop-cons}
 use Rattle.std.specs.Prelude.{is_some}
 use Rattle.std.specs.List.{list_all}
 use Rattle.std.proofs.lemmas.Bool.Decides.{nat_tests}
-use Rattle.std.proofs.lemmas.List.{take_all}
 use Rattle.std.proofs.lemmas.Bool.{and_parts}
 use Rattle.list_laws.proofs.Tests.{by_test}
 use Rattle.track_points.specs.declared.ids.TrainId.{TrainId}
 use Rattle.track_points.specs.declared.path.Path.{Path}
+use Rattle.track_points.specs.Points.{Lengths}
 use Rattle.definitions.specs.declared.event.Event.{Event}
 use Rattle.definitions.specs.declared.event.Event.TheVariants.{Train, Entry, Enter, Step}
 use Rattle.definitions.specs.declared.message.Msg.{Msg}
@@ -16,12 +16,13 @@ use Rattle.definitions.specs.Track.{Line, seg_len}
 use Rattle.definitions.specs.Rules.{is_line}
 use Rattle.definitions.specs.Premises.{ascending}
 use Rattle.plain_state.specs.declared.EntryAuthority.{EntryAuthority}
+use Rattle.plain_state.specs.declared.Head.{Head}
 use Rattle.plain_state.specs.declared.WorldTrain.{WorldTrain}
-use Rattle.plain_state.specs.World.{PlainWorld, find_train, change_train, authority_found, kept_sender, on_found, room_found, new_train, asked_at_portal, come_on, moved_train, trains_moved, took_auth, auth_fits, train_heeds, world_heeds, world_take_next, world_event_next}
+use Rattle.plain_state.specs.World.{PlainWorld, find_train, change_train, authority_found, kept_sender, on_found, room_found, new_train, asked_at_portal, come_on, moved_train, trains_moved, took_by, took_auth, auth_fits, acted_on_by, train_acts_on, world_acts_on, world_take_next, world_event_next}
 use Rattle.plain_state.specs.Plain.{world_start}
 use Rattle.plain_state.specs.Admits.{world_reports, world_moves, world_stops, world_enters, world_premise, may_move_found}
-use Rattle.world_sim.specs.World.{put, ascends, AllOn, IsWorldOn, IsBuilt, Took}
-use Rattle.world_sim.proofs.Listed.{replaced, more_on, changed_on, may_still, ascends_from}
+use Rattle.world_sim.specs.World.{ascends, AllOn, IsWorldOn, IsBuilt}
+use Rattle.world_sim.proofs.Listed.{more_on, changed_on, may_still, ascends_from}
 use Rattle.world_sim.proofs.OnTrack.{declares, asks, comes_on, moves_on, takes}
 
 pub stops : (w : PlainWorld) (e : Event) → world_premise w e ≡ 0 → world_stops w e ≡ true
@@ -89,50 +90,75 @@ event_stays line w (Step ms moves) on built h =
 event_stays line w _ on built h = on
 
 auth_stays : (line : Line) (trains : List WorldTrain) (from t number mark : ℕ) (path : Path) → is_line line ≡ true → auth_fits line mark path ≡ true
-    → train_heeds (seg_len line) (find_train t trains) number mark path ≡ true → AllOn line trains → AllOn line (change_train t (took_auth (seg_len line) from number mark path) trains)
-auth_stays line trains from t number mark path valid fits heeds each = changed_on line t (took_auth (seg_len line) from number mark path) trains each
-    (λ x found here. takes line from number mark path x valid fits (rw found at heeds) here)
+    → train_acts_on (seg_len line) (find_train t trains) number mark path ≡ true → AllOn line trains → AllOn line (change_train t (took_auth (seg_len line) from number mark path) trains)
+auth_stays line trains from t number mark path valid fits acts_on each = changed_on line t (took_auth (seg_len line) from number mark path) trains each
+    (λ x found here. takes line from number mark path x valid fits (rw found at acts_on) here)
 
 pub take_stays : (line : Line) (w : PlainWorld) (from : ℕ) (m : Msg) → IsWorldOn line w → IsWorldOn line (world_take_next line w from m)
-take_stays line w from (msg.Auth t number mark path) on = by_test (world_heeds line w.trains (msg.Auth t number mark path))
+take_stays line w from (msg.Auth t number mark path) on = by_test (world_acts_on line w.trains (msg.Auth t number mark path))
     (λ y.
-    let k = and_parts (auth_fits line mark path) (train_heeds (seg_len line) (find_train t.0 w.trains) number mark path) y in
+    let k = and_parts (auth_fits line mark path) (train_acts_on (seg_len line) (find_train t.0 w.trains) number mark path) y in
     rw y (record { valid = on.valid; each = auth_stays line w.trains from t.0 number mark path on.valid k.0 k.1 on.each }))
     (λ n. rw n on)
 take_stays line w from _ on = on
 
--- what is left of the moves behind the first
-rest_all : {A : Type 0} (xs : List A) → take (length xs - 1) (drop 1 xs) ≡ drop 1 xs
-rest_all [] = refl
-rest_all (x ∷ xs) = take_all (length (x ∷ xs) - 1) xs (omega arith)
+-- What is left of some moves, and what they make of the trains.
+pub record Going (line : Line) (moves : List (TrainId × ℕ)) (rest : List (TrainId × ℕ)) (old now : PlainWorld) : Type 0 where
+  pub clock : now.clock ≡ old.clock
+  pub trains : trains_moved line moves old.trains ≡ trains_moved line rest now.trains
+  pub each : AllOn line now.trains
+  pub ascend : ascends rest ≡ true
+  pub may : list_all (may_move_found now.trains) rest ≡ true
 
-goes_by : (line : Line) (moves : List (TrainId × ℕ)) (d : TrainId × ℕ) (trains : List WorldTrain) → 1 ≤ length moves → is_line line ≡ true → AllOn line trains
-    → ascends moves ≡ true → list_all (may_move_found trains) moves ≡ true
-    → AllOn line (change_train (get_or moves 0 d).0.0 (moved_train line (get_or moves 0 d).1) trains)
-    × (ascends (drop 1 moves) ≡ true)
-    × (list_all (may_move_found (change_train (get_or moves 0 d).0.0 (moved_train line (get_or moves 0 d).1) trains)) (drop 1 moves) ≡ true)
-goes_by line [] d trains some valid each a may = absurd (omega arith)
-goes_by line (x ∷ moves) d trains some valid each a may =
-    let k = and_parts (may_move_found trains x) (list_all (may_move_found trains) moves) may in
-    (moved_stays line x trains valid k.0 each, ascends_from x.0.0 moves a, may_still line x moves x.0.0 trains (omega arith) a k.1)
+pub goes_first : (line : Line) (moves : List (TrainId × ℕ)) (w : PlainWorld) → AllOn line w.trains → ascends moves ≡ true → list_all (may_move_found w.trains) moves ≡ true
+    → Going line moves moves w w
+goes_first line moves w each ascend may = record { clock = refl; trains = refl; each = each; ascend = ascend; may = may }
 
-pub goes : (line : Line) (moves : List (TrainId × ℕ)) (d : TrainId × ℕ) (w v : PlainWorld)
-    → v ≡ record { clock = w.clock; trains = change_train (get_or moves 0 d).0.0 (moved_train line (get_or moves 0 d).1) w.trains } → 1 ≤ length moves → is_line line ≡ true
-    → AllOn line w.trains → ascends moves ≡ true → list_all (may_move_found w.trains) moves ≡ true
-    → (is_line line ≡ true) × (AllOn line v.trains × ((ascends (take (length moves - 1) (drop 1 moves)) ≡ true)
-    × (list_all (may_move_found v.trains) (take (length moves - 1) (drop 1 moves)) ≡ true)))
-goes line moves d w v h some valid each a may =
-    let k = goes_by line moves d w.trains some valid each a may in
-    let e : v.trains ≡ change_train (get_or moves 0 d).0.0 (moved_train line (get_or moves 0 d).1) w.trains = ap (λ (u : PlainWorld). u.trains) h in
-    rw (e, rest_all moves) (valid, (k.0, (k.1, k.2)))
+goes_by : (line : Line) (moves : List (TrainId × ℕ)) (x : TrainId × ℕ) (rest : List (TrainId × ℕ)) (w v u : PlainWorld) → is_line line ≡ true → Going line moves (x ∷ rest) w v
+    → u ≡ record { clock = v.clock; trains = change_train x.0.0 (moved_train line x.1) v.trains } → Going line moves rest w u
+unfolding trains_moved
+goes_by line moves x rest w v u valid g e =
+    let k = and_parts (may_move_found v.trains x) (list_all (may_move_found v.trains) rest) g.may in
+    rw e (record {
+      clock = g.clock;
+      trains = g.trains;
+      each = moved_stays line x v.trains valid k.0 g.each;
+      ascend = ascends_from x.0.0 rest g.ascend;
+      may = may_still line x rest x.0.0 v.trains (omega arith) g.ascend k.1;
+    })
 
--- a train that acts on an authority, put in
-pub taken : (line : Line) (t : TrainId) (from number mark : ℕ) (path : Path) (x y : WorldTrain) (w v : PlainWorld)
-    → v ≡ record { clock = w.clock; trains = change_train t.0 (put y) w.trains } → Some x ≡ find_train t.0 w.trains → auth_fits line mark path ≡ true
-    → Took (seg_len line) from number mark path x.head x (Some y) → v ≡ world_take_next line w from (msg.Auth t number mark path)
-taken line t from number mark path x y w v h found fits k =
-    let heeds : world_heeds line w.trains (msg.Auth t number mark path) ≡ true = rw (fits, sym found, k.0) refl in
-    rw heeds (replaced t.0 (took_auth (seg_len line) from number mark path) x y w v h k.1 found)
+pub goes_on : (line : Line) (moves : List (TrainId × ℕ)) (i : ℕ) (d : TrainId × ℕ) (w v u : PlainWorld) → is_line line ≡ true → i < length moves → Going line moves (drop i moves) w v
+    → u ≡ record { clock = v.clock; trains = change_train (get_or moves i d).0.0 (moved_train line (get_or moves i d).1) v.trains } → Going line moves (drop (i + 1) moves) w u
+goes_on line moves i d w v u valid l g e =
+    let s = drop-cons moves i d l in
+    rw (add-one i) (goes_by line moves (get_or moves i d) (drop (suc i) moves) w v u valid (rw s at g) e)
+
+-- the next move is one that may be
+pub goes_next : (line : Line) (moves : List (TrainId × ℕ)) (i : ℕ) (d : TrainId × ℕ) (w v : PlainWorld) → i < length moves → Going line moves (drop i moves) w v
+    → may_move_found v.trains (get_or moves i d) ≡ true
+goes_next line moves i d w v l g =
+    let s = drop-cons moves i d l in
+    let may = rw s at g.may in
+    (and_parts (may_move_found v.trains (get_or moves i d)) (list_all (may_move_found v.trains) (drop (suc i) moves)) may).0
+
+pub gone : (line : Line) (moves : List (TrainId × ℕ)) (w v : PlainWorld) → Going line moves [] w v → v ≡ record { clock = w.clock; trains = trains_moved line moves w.trains }
+unfolding trains_moved
+gone line moves w v g = rw (g.trains, ← g.clock) refl
+
+-- whether a train acts on an authority is whether the world does
+pub acts_on_is : (line : Line) (t : TrainId) (number mark : ℕ) (path : Path) (x : WorldTrain) (trains : List WorldTrain) (b : Bool) → find_train t.0 trains ≡ Some x → auth_fits line mark path ≡ true
+    → b ≡ acted_on_by (seg_len line) x x.head number mark path → world_acts_on line trains (msg.Auth t number mark path) ≡ b
+acts_on_is line t number mark path x trains b found fits h = rw (fits, found) (sym h)
+
+took_by_keeps : (len : Lengths) (from number mark : ℕ) (path : Path) (head : Option Head) (x : WorldTrain)
+    → ((took_by len from number mark path head x).id ≡ x.id) × ((took_by len from number mark path head x).speed ≡ x.speed)
+took_by_keeps len from number mark path None x = (refl, refl)
+took_by_keeps len from number mark path (Some h) x = (refl, refl)
+
+-- a train that may have taken an authority keeps its id and its speed
+pub took_keeps : (len : Lengths) (from number mark : ℕ) (path : Path) (b : Bool) (x y : WorldTrain) → y ≡ (if b then took_auth len from number mark path x else x) → (y.id ≡ x.id) × (y.speed ≡ x.speed)
+took_keeps len from number mark path true x y e = rw e (took_by_keeps len from number mark path x.head x)
+took_keeps len from number mark path false x y e = rw e (refl, refl)
 
 -- a world of no trains
 pub start_on : (line : Line) → is_line line ≡ true → IsWorldOn line world_start

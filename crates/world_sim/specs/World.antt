@@ -1,5 +1,6 @@
 -- What the world keeps of its trains besides the definitions, and what its calls ask and answer.
 use Rattle.std.specs.Prelude.{ℕ, ◌≡◌, ◌<◌, ◌≤◌, ◌+◌, ◌-◌, ◌^◌, Bool, true, false, List, [], ◌∷◌, length, nat_lt, nat_eq, Option, Some, None, Result, Ok, Err, ⊤}
+use Rattle.std.specs.List.{list_all, position}
 use Rattle.track_points.specs.declared.ids.DirSeg.{DirSeg}
 use Rattle.track_points.specs.declared.ids.TrainId.{TrainId}
 use Rattle.track_points.specs.declared.path.Path.{Path}
@@ -13,19 +14,21 @@ use Rattle.definitions.specs.Ways.{front_at}
 use Rattle.plain_state.specs.declared.EntryAuthority.{EntryAuthority}
 use Rattle.plain_state.specs.declared.Head.{Head}
 use Rattle.plain_state.specs.declared.WorldTrain.{WorldTrain}
-use Rattle.plain_state.specs.World.{PlainWorld, auth_fits, lies_on, room_on, heeded_by, took_by}
+use Rattle.plain_state.specs.World.{PlainWorld, auth_fits, lies_on, room_on}
 use Rattle.world_sim.specs.declared.world.Premise.{Premise}
+use Rattle.world_sim.specs.Places.{place_of}
 
 -- a message carries the speed in 16 bits
 abbrev pub speed_fits : WorldTrain → Bool
 speed_fits x = nat_lt x.speed 65536
 
--- a train in the place of whichever is there
-abbrev pub put : WorldTrain → WorldTrain → WorldTrain
-put y x = y
-
 abbrev pub is_train : ℕ → WorldTrain → Bool
 is_train t x = nat_eq x.id.0 t
+
+-- what a world keeps of its trains: their speeds fit a message, and the places tell where the first of each id stands
+pub record AreKept (places : List ℕ) (trains : List WorldTrain) : Type 0 where
+  pub speeds : list_all speed_fits trains ≡ true
+  pub placed : (t : ℕ) → t < 65536 → place_of places t ≡ position (is_train t) trains
 
 -- trains that ascend, from whichever is the first
 abbrev pub ascends : List (TrainId × ℕ) → Bool
@@ -103,8 +106,3 @@ EndIs line mark path None = auth_fits line mark path ≡ false
 abbrev pub RoomIs : Lengths → ℕ → Path → Head → Option ℕ → Type 0
 RoomIs len mark path h (Some room) = (lies_on len mark path h ≡ true) × (room ≡ room_on len mark path h)
 RoomIs len mark path h None = lies_on len mark path h ≡ false
-
--- a train once it has taken an authority; none where it does not act on it
-abbrev pub Took : Lengths → ℕ → ℕ → ℕ → Path → Option Head → WorldTrain → Option WorldTrain → Type 0
-Took len from number mark path head x (Some y) = (heeded_by len x head number mark path ≡ true) × (y ≡ took_by len from number mark path head x)
-Took len from number mark path head x None = heeded_by len x head number mark path ≡ false

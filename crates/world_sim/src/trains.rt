@@ -1,56 +1,19 @@
-//! Trains: found and replaced in their list, and changed by their own steps.
-ghost use Rattle.std.specs.Prelude.{ℕ, ◌≡◌, ◌≤◌, ◌<◌, ◌&&◌, length, true, Some, None, IfSome, vec_capacity, is_some, nat_eq, nat_le, take, slice_get};
-ghost use Rattle.std.specs.List.{position, list_all};
+//! What the steps of a train make of it.
+ghost use Rattle.std.specs.Prelude.{ℕ, ◌≡◌, ◌≤◌, ◌+◌, true, Some, None, is_some, if◌then◌else◌};
 ghost use Rattle.track_points.specs.Points.{step_eq, end_place};
-ghost use Rattle.definitions.specs.Track.{seg_len};
+ghost use Rattle.definitions.specs.Track.{seg_len, has_segment, next_step};
 ghost use Rattle.definitions.specs.Rules.{is_line};
 ghost use Rattle.definitions.specs.Premises.{same_portal, on_line};
 ghost use Rattle.definitions.specs.Story.{or_else};
-ghost use Rattle.plain_state.specs.World.{find_train, change_train, kept_limit, asked_at_portal, head_at_entry, come_on, moved_train, authority_if_first, auth_fits, alone_on, covers_portal, is_step_at, lies_on, room_on, took_by};
-ghost use Rattle.plain_state.specs.Admits.{reports_head, can_move_found, may_move_found};
-ghost use Rattle.world_sim.specs.World.{put, is_train, moved_to, Reaches, HeadIs, EndIs, RoomIs, Took};
+ghost use Rattle.plain_state.specs.World.{kept_limit, asked_at_portal, head_at_entry, come_on, moved_train, authority_if_first, alone_on, covers_portal, acted_on_by, took_by, took_auth};
+ghost use Rattle.plain_state.specs.Admits.{reports_head};
+ghost use Rattle.world_sim.specs.World.{moved_to, Reaches, HeadIs, EndIs, RoomIs};
 
 use line_map::{After, Line};
 use plain_state::{EntryAuthority, Head, WorldTrain};
-use track_points::{DirSeg, Path, TrainId, same_dir};
+use track_points::{DirSeg, Path, same_dir};
 use way_path::Way;
 use way_path::on_steps::{length_of, total};
-
-/// The first train of this id.
-#[tactic(auto, unfolding(plain_state::specs::World::find_train))]
-pub fn find(trains: &[WorldTrain], train: TrainId) -> Option<WorldTrain>
-    ensures { result ≡ find_train train.0 trains.now }
-{
-    match trains {
-        [] => None,
-        [first, rest @ ..] => {
-            if first.id.0 == train.0 {
-                Some(*first)
-            } else {
-                find(rest, train)
-            }
-        }
-    }
-}
-
-/// Where the first train of this id stands.
-fn index_of(trains: &[WorldTrain], train: TrainId) -> Option<usize>
-    ensures first { result ≡ position (is_train train.0) trains.now }
-    ensures within { IfSome result (λ i. i < length trains.now) }
-{
-    trains.iter().position(|one| one.id.0 == train.0)
-}
-
-/// Puts a train in the place of the first one of this id.
-#[tactic(auto, using(crate::proofs::Listed::put_at, crate::proofs::Listed::put_nowhere))]
-pub fn replace(trains: &mut Vec<WorldTrain>, train: TrainId, changed: WorldTrain)
-    ensures items { trains.new.items ≡ change_train train.0 (put changed) trains.old.items }
-    ensures room { vec_capacity trains.old ≤ vec_capacity trains.new }
-{
-    if let Some(i) = index_of(trains.as_slice(), train) {
-        trains[i] = changed;
-    }
-}
 
 pub fn same_step(a: DirSeg, b: DirSeg) -> bool
     ensures { result ≡ step_eq a b }
@@ -142,13 +105,11 @@ fn kept_limit(authority: Option<EntryAuthority>) -> u32
     }
 }
 
-/// The train once it has asked for entry at a step: its first request stays.
-pub fn asked(train: WorldTrain, step: DirSeg) -> WorldTrain
-    ensures { result ≡ asked_at_portal step train }
+/// A train asks for entry at a step: its first request stays.
+pub fn ask_entry(train: &mut WorldTrain, step: DirSeg)
+    ensures { train.new ≡ asked_at_portal step train.old }
 {
-    let mut changed = train;
-    changed.entry = first_step(train.entry, step);
-    changed
+    train.entry = first_step(train.entry, step);
 }
 
 fn first_head(entry: Option<DirSeg>, train_length: u32) -> Option<Head>
@@ -164,54 +125,62 @@ fn first_head(entry: Option<DirSeg>, train_length: u32) -> Option<Head>
     }
 }
 
-/// The train once it has come on.
-pub fn come_on(train: WorldTrain) -> WorldTrain
-    ensures { result ≡ come_on train }
+/// A train comes on.
+pub fn come_on(train: &mut WorldTrain)
+    ensures { train.new ≡ come_on train.old }
 {
-    let mut changed = train;
-    changed.head = first_head(train.entry, train.train_length);
-    changed.room = kept_limit(train.authority).saturating_sub(train.train_length);
-    changed.last = 1;
-    changed
+    train.head = first_head(train.entry, train.train_length);
+    train.room = kept_limit(train.authority).saturating_sub(train.train_length);
+    train.last = 1;
 }
 
-/// The head once it is at a place of the track from a step on; the mark is that of the step.
-fn go_on(line: &Line, step: DirSeg, mark: u32, place: u64) -> Head
-    requires valid { is_line line.now ≡ true }
-    requires declared { on_line line.now step ≡ true }
-    requires track { Reaches line.now step mark place }
-    ensures { result ≡ moved_to line.now step mark place }
+/// The step that follows one on the track.
+fn follower(line: &Line, step: DirSeg) -> DirSeg
+    requires declared { has_segment line.now step.seg.0 ≡ true }
+    requires some { is_some (next_step line.now step) ≡ true }
+    ensures { next_step line.now step ≡ Some result }
 {
-    let len = u64::from(line.seg_len(step.seg));
-    if place <= len {
-        return Head {
-            step,
-            mark,
-            offset: place as u32,
-        };
-    }
     match line.after(step) {
-        After::Plain(next) => go_on(line, next, mark + 1, place - len),
+        After::Plain(next) => next,
         After::Portal => unreachable!(),
         After::Buffer => unreachable!(),
     }
 }
 
-/// The train once its head has moved on so many mm.
-#[tactic(auto, using(crate::proofs::OnTrack::reach_less))]
-pub fn moved(line: &Line, train: WorldTrain, mm: u32) -> WorldTrain
+/// A head once it has moved on so many mm along the track.
+fn moved(line: &Line, head: Head, mm: u32) -> Head
     requires valid { is_line line.now ≡ true }
-    requires head { HeadIs line.now train.room train.head }
-    requires room { mm ≤ train.room }
-    ensures { result ≡ moved_train line.now mm train }
+    requires declared { on_line line.now head.step ≡ true }
+    requires track { Reaches line.now head.step head.mark (head.offset + mm) }
+    ensures { result ≡ moved_to line.now head.step head.mark (head.offset + mm) }
 {
-    let mut changed = train;
-    if let Some(head) = train.head {
-        let place = u64::from(head.offset) + u64::from(mm);
-        changed.head = Some(go_on(line, head.step, head.mark, place));
+    let mut step = head.step;
+    let mut mark = head.mark;
+    let mut place = u64::from(head.offset) + u64::from(mm);
+    while place > u64::from(line.seg_len(step.seg)) {
+        place -= u64::from(line.seg_len(step.seg));
+        step = follower(line, step);
+        mark += 1;
     }
-    changed.room = train.room - mm;
-    changed
+    Head {
+        step,
+        mark,
+        offset: place as u32,
+    }
+}
+
+/// The head of a train moves on so many mm.
+#[tactic(auto, using(crate::proofs::OnTrack::reach_less))]
+pub fn move_on(line: &Line, train: &mut WorldTrain, mm: u32)
+    requires valid { is_line line.now ≡ true }
+    requires head { HeadIs line.now train.old.room train.old.head }
+    requires room { mm ≤ train.old.room }
+    ensures { train.new ≡ moved_train line.now mm train.old }
+{
+    if let Some(head) = train.head {
+        train.head = Some(moved(line, head, mm));
+    }
+    train.room -= mm;
 }
 
 /// How far the end of an authority lies ahead of a head; none where the head does not lie on it.
@@ -235,67 +204,70 @@ fn room_on(line: &Line, mark: u32, path: &Path, end: u32, head: Head) -> Option<
     }
 }
 
-/// A train on the line takes an authority; none where it does not act on it.
-fn took_on_line(
+/// A train on the line takes an authority, where its head lies on one of a new number. Whether it acts on it.
+fn take_on_line(
     line: &Line,
-    train: WorldTrain,
+    train: &mut WorldTrain,
     head: Head,
     number: u32,
     mark: u32,
     path: &Path,
     end: u32,
-) -> Option<WorldTrain>
+) -> bool
     requires { end ≡ end_place (seg_len line.now) path.now }
-    ensures { (from : ℕ) → Took (seg_len line.now) from number mark path.now (Some head) train result }
+    ensures acts_on { result ≡ acted_on_by (seg_len line.now) train.old (Some head) number mark path.now }
+    ensures next { (from : ℕ) → train.new ≡ (if result then took_by (seg_len line.now) from number mark path.now (Some head) train.old else train.old) }
 {
-    let mut changed = train;
     if train.last < number {
-        changed.room = room_on(line, mark, path, end, head)?;
+        let Some(room) = room_on(line, mark, path, end, head) else {
+            return false;
+        };
+        train.room = room;
     }
-    changed.last = train.last.max(number);
-    Some(changed)
+    train.last = train.last.max(number);
+    true
 }
 
-/// A train that has not come on takes an authority; none where it could be its entry authority, and does not fit its
-/// request.
-fn took_before(
+/// A train that has not come on takes an authority. One that could be its entry authority, and does not fit its request, it
+/// does not act on. Whether it acts on it.
+fn take_before(
     line: &Line,
-    train: WorldTrain,
+    train: &mut WorldTrain,
     from: u8,
     number: u32,
     mark: u32,
     path: &Path,
     end: u32,
-) -> Option<WorldTrain>
+) -> bool
     requires { end ≡ end_place (seg_len line.now) path.now }
-    ensures { Took (seg_len line.now) from number mark path.now None train result }
+    ensures acts_on { result ≡ acted_on_by (seg_len line.now) train.old None number mark path.now }
+    ensures next { train.new ≡ (if result then took_by (seg_len line.now) from number mark path.now None train.old else train.old) }
 {
     let fits = mark == 0 && covers_portal(line, train.entry, train.train_length, path);
-    if train.authority.is_some() || number != 1 || fits {
-        let mut changed = train;
-        changed.authority = first_authority(train.authority, from, end, number);
-        Some(changed)
-    } else {
-        None
+    let acts_on = train.authority.is_some() || number != 1 || fits;
+    if acts_on {
+        train.authority = first_authority(train.authority, from, end, number);
     }
+    acts_on
 }
 
-/// The train once it has taken an authority that ends at this place of its path; none where it does not act on it.
-pub fn took(
+/// A train takes an authority that ends at this place of its path. Whether it acts on it.
+pub fn take_authority(
     line: &Line,
-    train: WorldTrain,
+    train: &mut WorldTrain,
     from: u8,
     number: u32,
     mark: u32,
     path: &Path,
     end: u32,
-) -> Option<WorldTrain>
+) -> bool
     requires { end ≡ end_place (seg_len line.now) path.now }
-    ensures { Took (seg_len line.now) from number mark path.now train.head train result }
+    ensures acts_on { result ≡ acted_on_by (seg_len line.now) train.old train.old.head number mark path.now }
+    ensures next { train.new ≡ (if result then took_auth (seg_len line.now) from number mark path.now train.old else train.old) }
 {
     match train.head {
-        None => took_before(line, train, from, number, mark, path, end),
-        Some(head) => took_on_line(line, train, head, number, mark, path, end),
+        None => take_before(line, train, from, number, mark, path, end),
+        Some(head) => take_on_line(line, train, head, number, mark, path, end),
     }
 }
 
@@ -309,47 +281,4 @@ pub fn reports(error: u32, head: Option<Head>, step: DirSeg, offset: i32) -> boo
     let at = i64::from(head.offset);
     let told = i64::from(offset);
     same_step(step, head.step) && at - i64::from(error) <= told && told <= at + i64::from(error)
-}
-
-/// Whether a train can move so many mm in so many ms.
-fn can_move_one(trains: &[WorldTrain], ms: u32, train: TrainId, mm: u32) -> bool
-    ensures { result ≡ can_move_found ms trains.now (train, mm) }
-{
-    let speed = match find(trains, train) {
-        Some(found) => found.speed,
-        None => 0,
-    };
-    u64::from(mm) <= u64::from(speed) * u64::from(ms) / 1000
-}
-
-/// Whether each train can move so far in so many ms.
-pub fn can_move(trains: &[WorldTrain], ms: u32, moves: &[(TrainId, u32)]) -> bool
-    ensures { result ≡ list_all (can_move_found ms trains.now) moves.now }
-{
-    match moves {
-        [] => true,
-        [(train, mm), rest @ ..] => {
-            can_move_one(trains, ms, *train, *mm) && can_move(trains, ms, rest)
-        }
-    }
-}
-
-/// Whether a train is on the line, with room to move so many mm.
-fn may_move_one(trains: &[WorldTrain], train: TrainId, mm: u32) -> bool
-    ensures { result ≡ may_move_found trains.now (train, mm) }
-{
-    match find(trains, train) {
-        Some(found) => found.head.is_some() && mm <= found.room,
-        None => false,
-    }
-}
-
-/// Whether each train is on the line, with room to move so far.
-pub fn may_move(trains: &[WorldTrain], moves: &[(TrainId, u32)]) -> bool
-    ensures { result ≡ list_all (may_move_found trains.now) moves.now }
-{
-    match moves {
-        [] => true,
-        [(train, mm), rest @ ..] => may_move_one(trains, *train, *mm) && may_move(trains, rest),
-    }
 }

@@ -1,27 +1,27 @@
 //! The world, by its clock and its trains.
-ghost use Rattle.std.specs.Prelude.{◌≡◌, ◌+◌, ◌++◌, ◌∷◌, ◌<◌, ◌^◌, [], true, length, Some, IfOk, IfSome, is_some, ◌&&◌, not};
-ghost use Rattle.std.specs.List.{list_all};
+ghost use Rattle.std.specs.Prelude.{◌≡◌, ◌+◌, ◌++◌, ◌∷◌, ◌<◌, ◌^◌, [], true, length, Some, IfOk, IfSome, is_some, ◌&&◌, not, nat_le, ◌*◌, ◌/◌};
+ghost use Rattle.std.specs.List.{list_all, position};
+ghost use Rattle.std.specs.Option.{option_copied};
 ghost use Rattle.track_points.specs.Points.{end_place};
 ghost use Rattle.definitions.specs.Track.{seg_len};
 ghost use Rattle.definitions.specs.Rules.{is_line};
 ghost use Rattle.definitions.specs.Steps.{nothing, answers, entering, requesting, taking_auth, telling};
 ghost use Rattle.definitions.specs.declared.message.Msg.TheVariants as msg;
 ghost use Rattle.definitions.specs.Premises.{same_portal};
-ghost use Rattle.plain_state.specs.World.{find_train, change_train, facts_found, entry_found, authority_found, head_found, on_found, number_found, mark_of, new_train, asked_at_portal, come_on, moved_train, trains_moved, auth_fits, world_event_effect, world_event_next, world_take_effect, world_take_next};
+ghost use Rattle.plain_state.specs.World.{find_train, change_train, facts_found, entry_found, kept_sender, authority_found, head_found, on_found, number_found, mark_of, new_train, asked_at_portal, come_on, moved_train, trains_moved, auth_fits, world_event_effect, world_event_next, world_take_effect, world_take_next};
 ghost use Rattle.plain_state.specs.Plain.{world_start};
-ghost use Rattle.plain_state.specs.Admits.{world_reports, world_moves, world_stops, world_enters, world_premise, may_move_found};
-ghost use Rattle.world_sim.specs.World.{speed_fits, put, ascends, StepFits, IsBuilt, Admits, AllOn, IsWorldOn};
+ghost use Rattle.plain_state.specs.Admits.{world_reports, world_moves, world_stops, world_enters, world_premise, can_move_found, may_move_found};
+ghost use Rattle.world_sim.specs.World.{speed_fits, is_train, ascends, StepFits, IsBuilt, Admits, AllOn, IsWorldOn};
 
-use crate::trains::{
-    asked, can_move, come_on, end_of, find, is_same_portal, may_move, moved, replace, reports, took,
-};
+use crate::places::TrainPlaces;
+use crate::trains::{ask_entry, come_on, end_of, is_same_portal, move_on, reports, take_authority};
 use arrayvec::ArrayVec;
 use definitions::event::Event;
 use definitions::message::Msg;
 use definitions::outcome::{AnswerWord, Outcome};
 use line_map::Line;
 use msg_codec::Outs;
-use plain_state::WorldTrain;
+use plain_state::{EntryAuthority, WorldTrain};
 use std::alloc::{AllocError, Global};
 use std::marker::Model;
 use thiserror::Error;
@@ -52,10 +52,10 @@ fn answer(time: u64, train: TrainId, zone: u8, number: u32, outs: &mut Outs)
 }
 
 /// Sends the request for entry, to the portal's zone.
-fn request(time: u64, train: WorldTrain, id: TrainId, step: DirSeg, zone: u8, outs: &mut Outs)
+fn request(time: u64, train: &WorldTrain, id: TrainId, step: DirSeg, zone: u8, outs: &mut Outs)
     requires empty { outs.old ≡ nothing }
-    requires speed { speed_fits train ≡ true }
-    ensures { outs.new ≡ requesting time id step zone (facts_found (Some train)) }
+    requires speed { speed_fits train.now ≡ true }
+    ensures { outs.new ≡ requesting time id step zone (facts_found (Some train.now)) }
 {
     outs.send(
         zone,
@@ -94,38 +94,65 @@ fn ask(
     );
 }
 
-/// Answers an authority of this number: a new number as taken, an old one as it was answered last.
-fn auth_answer(time: u64, train: WorldTrain, id: TrainId, from: u8, number: u32, outs: &mut Outs)
+/// A train that is on the line or not, of this last number, answers an authority: a new number as taken, an old one as it
+/// was answered last.
+fn auth_answer(
+    time: u64,
+    on: bool,
+    last: u32,
+    train: TrainId,
+    from: u8,
+    number: u32,
+    outs: &mut Outs,
+)
     requires { outs.old ≡ nothing }
-    ensures { outs.new ≡ taking_auth time (is_some train.head) train.last id from number }
+    ensures { outs.new ≡ taking_auth time on last train from number }
 {
-    if train.head.is_some() {
-        if train.last < number {
-            answer(time, id, from, number, outs);
+    if on {
+        if last < number {
+            answer(time, train, from, number, outs);
         } else {
-            answer(time, id, from, train.last, outs);
+            answer(time, train, from, last, outs);
         }
     }
 }
 
-/// The clock in ms, and the trains of the world. Room for 256 trains is reserved when it is made.
+/// A train that comes on answers its entry authority.
+fn answer_entry(time: u64, authority: Option<EntryAuthority>, train: TrainId, outs: &mut Outs)
+    requires { outs.old ≡ nothing }
+    ensures { outs.new ≡ entering time train (kept_sender authority) }
+{
+    if let Some(authority) = authority {
+        answer(time, train, authority.zone, 1, outs);
+    }
+}
+
+/// Whether so many mm are no more than a speed in mm/s gives in so many ms.
+fn is_within(speed: u32, ms: u32, mm: u32) -> bool
+    ensures { result ≡ nat_le mm (speed * ms / 1000) }
+{
+    u64::from(mm) <= u64::from(speed) * u64::from(ms) / 1000
+}
+
+/// The clock in ms, the trains of the world, and where each stands among them. Room for 256 trains is reserved when it is
+/// made.
 #[derive(Drop)]
 pub struct World {
     clock: u64,
     trains: Vec<WorldTrain>,
+    places: TrainPlaces,
 }
 
 impl Model for World {
-    ghost use Rattle.std.specs.Prelude.{◌≡◌, ◌≤◌, true, vec_capacity};
-    ghost use Rattle.std.specs.List.{list_all};
+    ghost use Rattle.std.specs.Prelude.{◌≤◌, vec_capacity};
     ghost use Rattle.plain_state.specs.World.{PlainWorld};
-    ghost use Rattle.world_sim.specs.World.{speed_fits};
+    ghost use Rattle.world_sim.specs.World.{AreKept};
 
     ghost Value = { PlainWorld };
 
     ghost view = { λ w. record { clock = w.clock; trains = w.trains.items } };
 
-    ghost invariant = { λ w. (256 ≤ vec_capacity w.trains) × (list_all speed_fits w.trains.items ≡ true) };
+    ghost invariant = { λ w. (256 ≤ vec_capacity w.trains) × AreKept w.places w.trains.items };
 }
 
 impl World {
@@ -136,6 +163,7 @@ impl World {
         Ok(World {
             clock: 0,
             trains: Vec::with_capacity(alloc, 256)?,
+            places: TrainPlaces::new(alloc)?,
         })
     }
 
@@ -153,21 +181,31 @@ impl World {
         self.trains.len()
     }
 
+    /// Where the first train of this id stands.
+    fn place(&self, train: TrainId) -> Option<usize>
+        ensures first { result ≡ position (is_train train.0) self.now.trains }
+        ensures within { IfSome result (λ i. i < length self.now.trains) }
+    {
+        self.places.place(train)
+    }
+
+    /// The first train of this id, where it stands.
+    fn get(&self, train: TrainId) -> Option<&WorldTrain>
+        ensures found { option_copied result ≡ find_train train.0 self.now.trains }
+        ensures fits { IfSome result (λ x. speed_fits x.now ≡ true) }
+    {
+        match self.place(train) {
+            Some(i) => Some(&self.trains[i]),
+            None => None,
+        }
+    }
+
     /// The first train of this id.
-    #[tactic(auto, using(crate::proofs::Listed::found_fits))]
     pub fn find(&self, train: TrainId) -> Option<WorldTrain>
         ensures found { result ≡ find_train train.0 self.now.trains }
         ensures fits { IfSome result (λ x. speed_fits x ≡ true) }
     {
-        find(self.trains.as_slice(), train)
-    }
-
-    #[tactic(auto, using(crate::proofs::Listed::put_fits))]
-    fn replace(&mut self, train: TrainId, changed: WorldTrain)
-        requires { speed_fits changed ≡ true }
-        ensures { self.new ≡ record { clock = self.old.clock; trains = change_train train.0 (put changed) self.old.trains } }
-    {
-        replace(&mut self.trains, train, changed);
+        self.get(train).copied()
     }
 
     /// Whether a report tells the step of the train's head, and an offset that is off by no more than its error.
@@ -175,7 +213,7 @@ impl World {
         ensures { result ≡ world_reports self.now event.now }
     {
         match event {
-            Event::Report(train, _, step, offset, _) => match self.find(*train) {
+            Event::Report(train, _, step, offset, _) => match self.get(*train) {
                 Some(found) => reports(found.error, found.head, *step, *offset),
                 None => false,
             },
@@ -183,14 +221,48 @@ impl World {
         }
     }
 
+    /// Whether a train can move so many mm in so many ms.
+    fn can_move(&self, ms: u32, train: TrainId, mm: u32) -> bool
+        ensures { result ≡ can_move_found ms self.now.trains (train, mm) }
+    {
+        match self.get(train) {
+            Some(found) => is_within(found.speed, ms, mm),
+            None => is_within(0, ms, mm),
+        }
+    }
+
+    /// Whether each train can move so far in so many ms.
+    fn can_move_all(&self, ms: u32, moves: &[(TrainId, u32)]) -> bool
+        ensures { result ≡ list_all (can_move_found ms self.now.trains) moves.now }
+    {
+        moves.iter().all(|one| self.can_move(ms, one.0, one.1))
+    }
+
     /// Whether no train moves farther than it can.
     fn moves_rightly(&self, event: &Event) -> bool
         ensures { result ≡ world_moves self.now event.now }
     {
         match event {
-            Event::Step(ms, moves) => can_move(self.trains.as_slice(), *ms, moves.as_slice()),
+            Event::Step(ms, moves) => self.can_move_all(*ms, moves.as_slice()),
             _ => true,
         }
+    }
+
+    /// Whether a train is on the line, with room to move so many mm.
+    fn may_move(&self, train: TrainId, mm: u32) -> bool
+        ensures { result ≡ may_move_found self.now.trains (train, mm) }
+    {
+        match self.get(train) {
+            Some(found) => found.head.is_some() && mm <= found.room,
+            None => false,
+        }
+    }
+
+    /// Whether each train is on the line, with room to move so far.
+    fn may_move_all(&self, moves: &[(TrainId, u32)]) -> bool
+        ensures { result ≡ list_all (may_move_found self.now.trains) moves.now }
+    {
+        moves.iter().all(|one| self.may_move(one.0, one.1))
     }
 
     /// Whether each train that moves is on the line, and stops within its limit.
@@ -198,7 +270,7 @@ impl World {
         ensures { result ≡ world_stops self.now event.now }
     {
         match event {
-            Event::Step(_, moves) => may_move(self.trains.as_slice(), moves.as_slice()),
+            Event::Step(_, moves) => self.may_move_all(moves.as_slice()),
             _ => true,
         }
     }
@@ -207,7 +279,7 @@ impl World {
     fn may_ask_entry(&self, train: TrainId, step: DirSeg) -> bool
         ensures { result ≡ same_portal step (entry_found (find_train train.0 self.now.trains)) }
     {
-        match self.find(train) {
+        match self.get(train) {
             Some(found) => is_same_portal(step, found.entry),
             None => true,
         }
@@ -217,7 +289,7 @@ impl World {
     fn may_come_on(&self, train: TrainId) -> bool
         ensures { result ≡ (is_some (authority_found (find_train train.0 self.now.trains)) && not (on_found (find_train train.0 self.now.trains))) }
     {
-        match self.find(train) {
+        match self.get(train) {
             Some(found) => found.authority.is_some() && found.head.is_none(),
             None => false,
         }
@@ -260,6 +332,7 @@ impl World {
         requires speed { speed < 2 ^ 16 }
         ensures { self.new ≡ record { clock = self.old.clock; trains = self.old.trains ++ new_train train train_length error speed ∷ [] } }
     {
+        self.places.put(train, self.trains.len());
         let _ = self.trains.push(WorldTrain {
             id: train,
             train_length,
@@ -274,43 +347,38 @@ impl World {
     }
 
     /// The train asks for entry at a step, to this zone.
-    #[tactic(auto, using(crate::proofs::Listed::none_found))]
     fn entry(&mut self, train: TrainId, step: DirSeg, zone: u8, outs: &mut Outs)
         requires { outs.old ≡ nothing }
         ensures gives { outs.new ≡ requesting self.old.clock train step zone (facts_found (find_train train.0 self.old.trains)) }
         ensures next { self.new ≡ record { clock = self.old.clock; trains = change_train train.0 (asked_at_portal step) self.old.trains } }
     {
-        if let Some(found) = self.find(train) {
-            self.replace(train, asked(found, step));
-            request(self.clock, found, train, step, zone, outs);
+        if let Some(i) = self.place(train) {
+            request(self.clock, &self.trains[i], train, step, zone, outs);
+            ask_entry(&mut self.trains[i], step);
         }
     }
 
     /// The train comes on, and answers its entry authority.
-    #[tactic(auto, using(crate::proofs::Listed::none_found))]
     fn enter(&mut self, train: TrainId, outs: &mut Outs)
         requires { outs.old ≡ nothing }
         ensures gives { outs.new ≡ entering self.old.clock train (authority_found (find_train train.0 self.old.trains)) }
         ensures next { self.new ≡ record { clock = self.old.clock; trains = change_train train.0 come_on self.old.trains } }
     {
-        if let Some(found) = self.find(train) {
-            self.replace(train, come_on(found));
-            if let Some(authority) = found.authority {
-                answer(self.clock, train, authority.zone, 1, outs);
-            }
+        if let Some(i) = self.place(train) {
+            answer_entry(self.clock, self.trains[i].authority, train, outs);
+            come_on(&mut self.trains[i]);
         }
     }
 
     /// A train moves on so many mm.
-    #[tactic(auto, using(crate::proofs::Listed::none_found, crate::proofs::Listed::found_on))]
     fn move_on(&mut self, line: &Line, train: TrainId, mm: u32)
         requires valid { is_line line.now ≡ true }
         requires each { AllOn line.now self.old.trains }
         requires may { may_move_found self.old.trains (train, mm) ≡ true }
         ensures { self.new ≡ record { clock = self.old.clock; trains = change_train train.0 (moved_train line.now mm) self.old.trains } }
     {
-        if let Some(found) = self.find(train) {
-            self.replace(train, moved(line, found, mm));
+        if let Some(i) = self.place(train) {
+            move_on(line, &mut self.trains[i], mm);
         }
     }
 
@@ -323,9 +391,8 @@ impl World {
         requires may { list_all (may_move_found self.old.trains) moves.now ≡ true }
         ensures { self.new ≡ record { clock = self.old.clock; trains = trains_moved line.now moves.now self.old.trains } }
     {
-        if let [(train, mm), rest @ ..] = moves {
+        for (train, mm) in moves {
             self.move_on(line, *train, *mm);
-            self.go(line, rest);
         }
     }
 
@@ -334,7 +401,7 @@ impl World {
         requires { outs.old ≡ nothing }
         ensures { outs.new ≡ telling zone.0 (msg.Report train self.now.clock (mark_of (head_found (find_train train.0 self.now.trains))) offset whole) }
     {
-        let mark = match self.find(train) {
+        let mark = match self.get(train) {
             Some(found) => match found.head {
                 Some(head) => head.mark,
                 None => 0,
@@ -354,7 +421,6 @@ impl World {
     }
 
     /// An authority that ends at this place of its path is taken, where the train acts on it.
-    #[tactic(auto, using(crate::proofs::Listed::none_found))]
     fn take_auth(
         &mut self,
         line: &Line,
@@ -372,10 +438,11 @@ impl World {
         ensures gives { outs.new ≡ world_take_effect line.now self.old from (msg.Auth train number mark path.now) }
         ensures next { self.new ≡ world_take_next line.now self.old from (msg.Auth train number mark path.now) }
     {
-        if let Some(found) = self.find(train) {
-            if let Some(changed) = took(line, found, from, number, mark, path, end) {
-                self.replace(train, changed);
-                auth_answer(self.clock, found, train, from, number, outs);
+        if let Some(i) = self.place(train) {
+            let found = &mut self.trains[i];
+            let (on, last) = (found.head.is_some(), found.last);
+            if take_authority(line, found, from, number, mark, path, end) {
+                auth_answer(self.clock, on, last, train, from, number, outs);
             }
         }
     }

@@ -95,7 +95,7 @@ stop_is a b held limit e t f h le j none =
 abbrev pub standing : Bool → Bool → ℕ → ℕ → ℕ → Bool → ℕ → Obstacle
 standing a b e t f v p = if nat_eq p e then AskEnds else if a && nat_eq p t then TrackEnds else if v then Held else if b && nat_eq p f then PathFull else AskEnds
 
--- where a place before the first held one, or behind all steps, is not held, and that one is
+-- where a place before the first held one, or beyond all steps, is not held, and that one is
 least_at : (a b v : Bool) (limit e t f h : ℕ) → limit ≤ e → (h < t → limit ≤ h)
     → (h < t → (first_stop a b limit e t f h).place ≡ h → v ≡ true) → ((first_stop a b limit e t f h).place < h → v ≡ false) → (t ≤ (first_stop a b limit e t f h).place → v ≡ false)
     → standing a b e t f v (first_stop a b limit e t f h).place ≡ (first_stop a b limit e t f h).obstacle
@@ -115,7 +115,7 @@ bare_near true false limit e t f h i j k l = let x = k refl in grind (arith, nat
 bare_near false true limit e t f h i j k l = let x = l refl in grind (arith, nat_tests)
 bare_near false false limit e t f h i j k l = let x = l refl in let y = k refl in grind (arith, nat_tests)
 
--- none is behind the first 24 steps; `f` is their end, `t` that of all
+-- none is beyond the first 24 steps; `f` is their end, `t` that of all
 pub stop_near : (a b : Bool) (limit e t f h : ℕ) → limit ≤ e → limit ≤ f → f ≤ t → (b ≡ false → f ≡ t) → (a ≡ false → e ≤ max limit t)
     → (first_stop a b limit e t f h).place ≤ f
 stop_near a b limit e t f h i j k l m =

@@ -3,3 +3,4 @@ pub mod Away
 pub mod First
 pub mod OnSteps
 pub mod Reaches
+pub mod Walked

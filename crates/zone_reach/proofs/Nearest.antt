@@ -120,7 +120,7 @@ held_beyond : (line : Line) (z : ℕ) (trains : List Controlled) (t : ℕ) (st :
 unfolding on_step
 held_beyond line z trains t st asked p h = let n : nat_lt p (seg_len line st.seg.0) ≡ false = grind (arith, nat_tests) in rw n refl
 
--- nothing is held behind the end of the steps
+-- nothing is held beyond the end of the steps
 pub held_behind : (line : Line) (z : ℕ) (trains : List Controlled) (t : ℕ) (asked : List DirSeg) (p : ℕ) → total (seg_len line) asked ≤ p → held_at line z trains t asked p ≡ false
 unfolding on_step total
 held_behind line z trains t [] p h = refl
@@ -128,7 +128,7 @@ held_behind line z trains t (st ∷ asked) p h =
     let n : nat_lt p (seg_len line st.seg.0) ≡ false = grind (arith, nat_tests) in
     rw n (held_behind line z trains t asked (p - seg_len line st.seg.0) (omega arith))
 
--- on a step it stops, or it goes on behind it
+-- on a step it stops, or it goes on after it
 module _ (here rest all : ℕ → Bool) (len n from q : ℕ) (h : (p : ℕ) → p < len → all p ≡ here p) (b : (p : ℕ) → len ≤ p → all p ≡ rest (p - len)) (i : IsNearest here len from q) where
   stops_here : q < len → IsNearest all (len + n) from q
   stops_here lt = record {

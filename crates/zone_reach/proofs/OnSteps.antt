@@ -31,7 +31,7 @@ offset_first len [] (suc n) p h k = refl
 offset_first len (st ∷ asked) (suc n) p h k =
     sym (offset_more len (take (suc n) (st ∷ asked)) (drop (suc n) (st ∷ asked)) p (omega arith) h) ∙ ap (λ xs. offset_to len xs p) (take-append-drop (suc n) (st ∷ asked))
 
--- a way with more steps behind its own
+-- a way with more steps after its own
 
 pub last_behind : (steps : List DirSeg) (st : DirSeg) → last_step (steps ++ st ∷ []) ≡ st
 unfolding last_step

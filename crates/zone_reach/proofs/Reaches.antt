@@ -60,7 +60,7 @@ module _ (line : Line) (z : ℕ) (trains : List Controlled) (t : ℕ) (asked : L
   pub reach_is : stop_reach limit stop_there ≡ reach_on (layout line) ask_on
   reach_is = let d = distance_is in let o = obstacle_is in cc
 
--- the end of a way is not behind the first 24 steps of an asked way
+-- the end of a way is not beyond the first 24 steps of an asked way
 pub end_within : (len : Lengths) (path : Path) (asked : List DirSeg) → length path.steps.items ≤ 24 → path_fits len path ≡ true
     → end_place len path ≤ total len (take 24 (asked_way path.steps.items asked))
 end_within len path asked few fits =

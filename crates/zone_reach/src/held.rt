@@ -1,5 +1,5 @@
 //! What is held for other trains: the first such place on an asked way, and who holds a segment.
-ghost use Rattle.std.specs.Prelude.{◌≡◌, ◌≤◌, ◌*◌, length, min};
+ghost use Rattle.std.specs.Prelude.{◌≡◌, ◌≤◌, ◌*◌, length, min, nat_eq, Some, if◌then◌else◌};
 ghost use Rattle.definitions.specs.Track.{seg_len};
 ghost use Rattle.definitions.specs.Authority.{less_of};
 ghost use Rattle.plain_state.specs.Zone.{train_on, holder_plain};
@@ -114,22 +114,34 @@ fn or_near_train(line: &Line, other: &Controlled, step: DirSeg, from: u64, neare
     }
 }
 
+/// The same of a train that may be this one, whose own way bars nothing.
+fn or_near_other(
+    line: &Line,
+    other: &Controlled,
+    train: TrainId,
+    step: DirSeg,
+    from: u64,
+    nearest: u64,
+) -> u64
+    requires { nearest ≤ seg_len line.now step.seg.0 }
+    ensures { result ≡ (if nat_eq other.now.id.0 train.0 then nearest else min (near_train (seg_len line.now) other.now step from) nearest) }
+{
+    if other.id.0 == train.0 {
+        nearest
+    } else {
+        or_near_train(line, other, step, from, nearest)
+    }
+}
+
 /// The first offset of a step, from one on, whose cell lies in the way of another train than this one.
-#[tactic(auto, using(crate::proofs::Away::trains_within), unfolding(crate::specs::Held::near_trains))]
 fn near_trains(line: &Line, trains: &[Controlled], train: TrainId, step: DirSeg, from: u64) -> u64
     ensures { result ≡ near_trains (seg_len line.now) train.0 trains.now step from }
 {
-    match trains {
-        [] => length_of(line, step.seg) as u64,
-        [other, rest @ ..] => {
-            let others = near_trains(line, rest, train, step, from);
-            if other.id.0 == train.0 {
-                others
-            } else {
-                or_near_train(line, other, step, from, others)
-            }
-        }
+    let mut nearest = length_of(line, step.seg) as u64;
+    for other in trains {
+        nearest = or_near_other(line, other, train, step, from, nearest);
     }
+    nearest
 }
 
 /// The first offset of a step, from one on, whose cell is of the zone's own and held for another train than this one.
@@ -211,20 +223,24 @@ fn lesser(one: u16, other: Option<u16>) -> u16
     }
 }
 
+/// The lesser of this id and that of a train, where a cell of a segment of the zone's own is held for the train; else this.
+fn or_holder(line: &Line, zone: u8, other: &Controlled, s: SegId, least: Option<u16>) -> Option<u16>
+    ensures { result ≡ (if train_on line.now zone s.0 other.now then Some (less_of other.now.id.0 least) else least) }
+{
+    if train_on(line, zone, other, s) {
+        Some(lesser(other.id.0, least))
+    } else {
+        least
+    }
+}
+
 /// The least train for which a cell of a segment of the zone's own is held.
-#[tactic(auto, unfolding(plain_state::specs::Zone::least_train))]
 pub fn holder(line: &Line, zone: u8, trains: &[Controlled], s: SegId) -> Option<u16>
     ensures { result ≡ holder_plain line.now zone trains.now s.0 }
 {
-    match trains {
-        [] => None,
-        [other, rest @ ..] => {
-            let others = holder(line, zone, rest, s);
-            if train_on(line, zone, other, s) {
-                Some(lesser(other.id.0, others))
-            } else {
-                others
-            }
-        }
+    let mut least = None;
+    for other in trains {
+        least = or_holder(line, zone, other, s, least);
     }
+    least
 }

@@ -29,7 +29,7 @@ fn same_step(a: DirSeg, b: DirSeg) -> bool
         }
 }
 
-/// The asked steps behind the first place of a step among them, or else all.
+/// The asked steps after the first place of a step among them, or else all.
 #[tactic(auto, unfolding(definitions::specs::Limit::beyond))]
 fn behind<'a>(step: DirSeg, asked: &'a [DirSeg], all: &'a [DirSeg]) -> &'a [DirSeg]
     requires { length asked.now ≤ length all.now }
@@ -78,7 +78,7 @@ fn no_segment_twice(steps: &[DirSeg]) -> bool
     }
 }
 
-/// The asked way: a way's steps, and the asked ones behind them.
+/// The asked way: a way's steps, and the asked ones after them.
 pub fn asked_way(steps: &[DirSeg], asked: &[DirSeg]) -> ArrayVec<DirSeg, 48>
     requires old { length steps.now ≤ 24 }
     requires more { length asked.now ≤ 24 }

@@ -13,7 +13,7 @@ use Rattle.definitions.specs.Limit.{Reach}
 use Rattle.definitions.specs.Steps.{Effect, zone_entry, zone_ask, enter_or_held}
 use Rattle.plain_state.specs.declared.Controlled.{Controlled}
 use Rattle.plain_state.specs.Refinement.{Distinct}
-use Rattle.plain_state.specs.Zone.{PlainZone, find_controlled, full, holder_plain, reach_plain, last_found, way_found, uses_mark, place_found, again_found, zone_answer, zone_heeds, zone_gives, zone_take_effect, trains_stepped, clock_after}
+use Rattle.plain_state.specs.Zone.{PlainZone, find_controlled, full, holder_plain, reach_plain, last_found, way_found, uses_mark, place_found, again_found, zone_answer, zone_acts_on, zone_gives, zone_take_effect, trains_stepped, clock_after}
 use Rattle.zone_state.specs.Zone.{alarms_of}
 use Rattle.zone_state.proofs.Alarms.{Follows, grown_follows, after_follows}
 
@@ -57,18 +57,18 @@ answer_one line z clock trains _ = omega arith
 
 pub gives_one : (line : Line) (z : PlainZone) (from : ℕ) (m : Msg) → AtMostOne (zone_gives line z from m)
 gives_one line z from m =
-    by_test (zone_heeds line z from m)
+    by_test (zone_acts_on line z from m)
     (λ y. rw y (answer_one line z.id (clock_after z.clock m) _ m))
     (λ n. rw n (omega arith))
 
 pub stepped_follows : (line : Line) (z : PlainZone) (from : ℕ) (m : Msg) → Distinct z.trains → length z.trains ≤ 256
     → Follows line z.id z.clock (clock_after z.clock m) z.trains (trains_stepped line z from m)
 stepped_follows line z from m d few =
-    by_test (zone_heeds line z from m)
+    by_test (zone_acts_on line z from m)
     (λ y. rw y (after_follows line z.id z.clock (clock_after z.clock m) z.trains d few m refl))
     (λ n. rw n (grown_follows line z.id z.clock (clock_after z.clock m) z.trains d few))
 
--- the lines of the message, and the alarms behind them
+-- the lines of the message, and the alarms after them
 pub gave : (line : Line) (z : PlainZone) (from : ℕ) (m : Msg) (given after : Effect) (new : List Controlled) → Distinct z.trains → length z.trains ≤ 256
     → given ≡ zone_gives line z from m → new ≡ trains_stepped line z from m
     → after ≡ record { issued = given.issued; lines = given.lines ++ alarms_of (silent_after line) z.id z.clock (clock_after z.clock m) new }

@@ -1,8 +1,11 @@
 -- The trains after a message: none is there twice, and which of them fall silent.
-use Rattle.std.proofs.Common.{◌≡◌, ℕ, suc, ◌≤◌, ◌<◌, max, true, false, not, ◌&&◌, List, [], ◌∷◌, length, map, Option, Some, None, is_some, refl, sym, ap, ◌∙◌, arith, nat_eq, nat_lt}
+use Rattle.std.proofs.Common.{◌≡◌, ℕ, suc, ◌+◌, ◌≤◌, ◌<◌, max, true, false, not, ◌&&◌, List, [], ◌∷◌, ◌++◌, length, map, filter, take, get_or, Option, Some, None, is_some, refl, sym, ap, ◌∙◌, arith, nat_eq, nat_lt, add-one, append_assoc}
 use Rattle.std.specs.Prelude.{⊤}
 use Rattle.std.specs.List.{list_all}
 use Rattle.std.proofs.lemmas.Bool.Decides.{nat_tests}
+use Rattle.std.proofs.Math.Seq.{take-suc}
+use Rattle.std.proofs.lemmas.List.{map-append, append-nil}
+use Rattle.std.proofs.lemmas.List.Elements.{filter-append}
 use Rattle.list_laws.proofs.Tests.{by_test, none_of}
 use Rattle.track_points.specs.declared.ids.TrainId.{TrainId}
 use Rattle.definitions.specs.declared.message.Msg.{Msg}
@@ -11,8 +14,9 @@ use Rattle.definitions.specs.declared.outcome.Outcome.{Outcome}
 use Rattle.definitions.specs.Track.{Line, seg_len, silent_after}
 use Rattle.definitions.specs.Fronts.{silent_by}
 use Rattle.definitions.specs.Control.{message_time}
+use Rattle.definitions.specs.Steps.{Effect}
 use Rattle.plain_state.specs.declared.Controlled.{Controlled}
-use Rattle.plain_state.specs.Zone.{find_controlled, change_controlled, placed_train, entered_or, train_at_entry, full, holder_plain, reach_plain, uses_mark, trains_heeded, grown_train, plain_alarms, is_alarmed, report_or, alarm_of, lengthened, answer, reported_by, fresh_train}
+use Rattle.plain_state.specs.Zone.{find_controlled, change_controlled, placed_train, entered_or, train_at_entry, full, holder_plain, reach_plain, uses_mark, trains_acted_on, grown_train, plain_alarms, is_alarmed, report_or, alarm_of, lengthened, answer, reported_by, fresh_train}
 use Rattle.plain_state.specs.Refinement.{Distinct}
 use Rattle.plain_state.proofs.Trains.{distinct_change, distinct_mapped, distinct_placed}
 use Rattle.zone_state.specs.Zone.{falls_silent, alarms_of}
@@ -52,7 +56,7 @@ found_among all x (y ∷ ys) f =
     (λ a. (rw a at f).1)
     (λ b. let g = rw b at f in (g.0, found_among all x ys g.1))
 
--- the trains before and after a message, one beside the other: whether each falls silent can be seen behind it
+-- the trains before and after a message, one beside the other: whether each falls silent can be seen after it
 unfoldable pub Beside : Line → ℕ → ℕ → List Controlled → List Controlled → Type 0
 Beside line before clock [] [] = ⊤
 Beside line before clock (x ∷ xs) (y ∷ ys) =
@@ -172,7 +176,7 @@ module _ (line : Line) (z before clock : ℕ) (old : List Controlled) (d : Disti
   entered_follows (Some u) x h r l = grown_follows
   entered_follows None x h r l = placed_follows x h r l
 
-  pub after_follows : (m : Msg) → clock ≡ max before (message_time m) → Follows line z before clock old (trains_heeded line z clock (map (grown_train clock) old) m)
+  pub after_follows : (m : Msg) → clock ≡ max before (message_time m) → Follows line z before clock old (trains_acted_on line z clock (map (grown_train clock) old) m)
   after_follows (msg.EntryAsk t time long error speed equipped step) c =
       let trains = map (grown_train clock) old in
       by_test (is_some (find_controlled t.0 trains))
@@ -198,3 +202,43 @@ module _ (line : Line) (z before clock : ℕ) (old : List Controlled) (d : Disti
 pub fresh_grown : (clock : ℕ) (xs : List Controlled) → list_all fresh_train (map (grown_train clock) xs) ≡ list_all fresh_train xs
 fresh_grown clock [] = refl
 fresh_grown clock (x ∷ xs) = rw (fresh_grown clock xs) refl
+
+-- The alarms of some trains, one by one.
+
+-- the alarms of so many trains are told after what was told
+pub record Told (ms z before clock : ℕ) (trains : List Controlled) (count : ℕ) (old new : Effect) : Type 0 where
+  pub all : new ≡ record { issued = old.issued; lines = old.lines ++ alarms_of ms z before clock trains }
+  pub few : length new.lines ≤ length old.lines + count
+
+pub alarms_more : (ms z before clock : ℕ) (xs : List Controlled) (i : ℕ) (x : Controlled) → i < length xs → x ≡ get_or xs i x
+    → alarms_of ms z before clock (take (i + 1) xs) ≡ alarms_of ms z before clock (take i xs) ++ alarms_of ms z before clock (x ∷ [])
+alarms_more ms z before clock xs i x l e =
+    let t : take (i + 1) xs ≡ take i xs ++ x ∷ [] = ap (λ (n : ℕ). take n xs) (add-one i) ∙ (take-suc xs i x l ∙ ap (λ (y : Controlled). take i xs ++ y ∷ []) (sym e)) in
+    ap (alarms_of ms z before clock) t
+    ∙ (ap (map (alarm_of z)) (filter-append (falls_silent ms before clock) (take i xs) (x ∷ [])) ∙ map-append (alarm_of z) (filter (falls_silent ms before clock) (take i xs)) (filter (falls_silent ms before clock) (x ∷ [])))
+
+-- where Now has not risen no train falls silent
+alarms_still : (ms z before clock : ℕ) (xs : List Controlled) → clock ≤ before → alarms_of ms z before clock xs ≡ []
+alarms_still ms z before clock [] l = refl
+alarms_still ms z before clock (x ∷ xs) l =
+    let n : falls_silent ms before clock x ≡ false = grind (arith, nat_tests) in
+    rw n (alarms_still ms z before clock xs l)
+
+abbrev with_lines : Effect → List Outcome → Effect
+with_lines m os = record { issued = m.issued; lines = os }
+
+pub told_none : (ms z before clock : ℕ) (outs : Effect) → Told ms z before clock [] 0 outs outs
+told_none ms z before clock outs = record { all = ap (with_lines outs) (sym (append-nil outs.lines)); few = omega arith }
+
+-- one more train, which falls silent or does not
+pub told_more : (ms z before clock : ℕ) (xs : List Controlled) (i : ℕ) (x : Controlled) (old mid new : Effect) → i < length xs → x ≡ get_or xs i x → Told ms z before clock (take i xs) i old mid
+    → new ≡ record { issued = mid.issued; lines = mid.lines ++ alarms_of ms z before clock (x ∷ []) } → length new.lines ≤ length mid.lines + 1
+    → Told ms z before clock (take (i + 1) xs) (i + 1) old new
+told_more ms z before clock xs i x old mid new l e t n one = record {
+  all = n ∙ (ap (λ (m : Effect). with_lines m (m.lines ++ alarms_of ms z before clock (x ∷ []))) t.all
+      ∙ ap (with_lines old) (append_assoc old.lines (alarms_of ms z before clock (take i xs)) (alarms_of ms z before clock (x ∷ [])) ∙ ap (λ (os : List Outcome). old.lines ++ os) (sym (alarms_more ms z before clock xs i x l e))));
+  few = let f = t.few in omega arith;
+}
+
+pub told_still : (ms z before clock : ℕ) (xs : List Controlled) (outs : Effect) → clock ≤ before → outs ≡ record { issued = outs.issued; lines = outs.lines ++ alarms_of ms z before clock xs }
+told_still ms z before clock xs outs l = ap (with_lines outs) (sym (append-nil outs.lines) ∙ ap (λ (os : List Outcome). outs.lines ++ os) (sym (alarms_still ms z before clock xs l)))

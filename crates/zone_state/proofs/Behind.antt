@@ -10,7 +10,7 @@ use Rattle.plain_state.specs.declared.Shrink.{Shrink}
 use Rattle.plain_state.specs.declared.Controlled.{Controlled}
 use Rattle.plain_state.specs.Zone.{cut_at_rear, shifted}
 
--- where a place lies on the first of the steps behind others, those others lie behind it
+-- where a place lies on the first of the steps after others, those others lie behind it
 behind_split : (len : Lengths) (a b : List DirSeg) (q : ℕ) → q < first_len len b → steps_behind len (a ++ b) (total len a + q) ≡ length a
 unfolding steps_behind total
 behind_split len [] [] q h = absurd (omega arith)

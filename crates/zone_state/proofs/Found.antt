@@ -5,7 +5,7 @@ use Rattle.std.proofs.Math.Seq.{take-append_seam}
 use Rattle.std.specs.List.{list_all, position, position_or_len}
 use Rattle.std.proofs.lemmas.Bool.Decides.{nat_tests}
 use Rattle.std.proofs.lemmas.List.Quantifiers.{position-Some}
-use Rattle.std.proofs.lemmas.List.Sums.{fails_before_first}
+use Rattle.std.proofs.lemmas.List.Sums.{fails_before_first, position_or_len_is}
 use Rattle.list_laws.proofs.Tests.{by_test}
 use Rattle.track_points.specs.declared.ids.DirSeg.{DirSeg}
 use Rattle.track_points.specs.Points.{Lengths, total, place_of_last, end_place, visits, no_segment_twice}
@@ -19,7 +19,7 @@ use Rattle.plain_state.specs.declared.Shrink.{Shrink}
 use Rattle.plain_state.specs.declared.Controlled.{Controlled}
 use Rattle.plain_state.specs.Zone.{find_controlled, change_controlled, answered_by, answer}
 use Rattle.zone_reach.specs.Reach.{path_fits}
-use Rattle.zone_state.specs.Zone.{is_train, TrainFits, AllFit}
+use Rattle.zone_state.specs.Zone.{is_train, Ascend, TrainFits, AllFit}
 
 found_at : (t : ℕ) (xs : List Controlled) (i : ℕ) (d : Controlled) → i < length xs → is_train t (get_or xs i d) ≡ true
     → ((k : ℕ) → k < i → is_train t (get_or xs k d) ≡ false) → find_controlled t xs ≡ Some (get_or xs i d)
@@ -53,13 +53,13 @@ pub changed_is : (t : ℕ) (f : Controlled → Controlled) (xs : List Controlled
 changed_is t f xs i x y h e g = changed t f xs i x y h (g ∙ ap f e)
 
 -- what is read twice at an index
+pub same_read : (xs : List Controlled) (i : ℕ) (x y : Controlled) → i < length xs → get_or xs i x ≡ get_or xs i y
+same_read [] i x y l = absurd (omega arith)
+same_read (z ∷ zs) zero x y l = refl
+same_read (z ∷ zs) (suc i) x y l = same_read zs i x y (omega arith)
+
 pub read_same : (xs : List Controlled) (i : ℕ) (x y : Controlled) → i < length xs → x ≡ get_or xs i x → y ≡ get_or xs i y → x ≡ y
-read_same xs i x y l e f = e ∙ (read xs i x y l ∙ sym f)
-  where
-    read : (xs : List Controlled) (i : ℕ) (x y : Controlled) → i < length xs → get_or xs i x ≡ get_or xs i y
-    read [] i x y l = absurd (omega arith)
-    read (z ∷ zs) zero x y l = refl
-    read (z ∷ zs) (suc i) x y l = read zs i x y (omega arith)
+read_same xs i x y l e f = e ∙ (same_read xs i x y l ∙ sym f)
 
 none_at : (t : ℕ) (xs : List Controlled) → position (is_train t) xs ≡ None → (k : ℕ) (d : Controlled) → k < length xs → is_train t (get_or xs k d) ≡ false
 none_at t xs h k d l =
@@ -86,12 +86,45 @@ absent t xs h = absent_at t xs (none_at t xs h)
 pub kept : (t : ℕ) (f : Controlled → Controlled) (xs : List Controlled) → position (is_train t) xs ≡ None → change_controlled t f xs ≡ xs
 kept t f xs h = kept_at t f xs (none_at t xs h)
 
-pub known : (t : ℕ) (xs : List Controlled) (i : ℕ) → position (is_train t) xs ≡ Some i → is_some (find_controlled t xs) ≡ true
+known : (t : ℕ) (xs : List Controlled) (i : ℕ) → position (is_train t) xs ≡ Some i → is_some (find_controlled t xs) ≡ true
 known t [] i h = absurd (cc)
 known t (x ∷ xs) i h = rw (found t (x ∷ xs) i x h) refl
 
-pub unknown : (t : ℕ) (xs : List Controlled) → position (is_train t) xs ≡ None → is_some (find_controlled t xs) ≡ false
+unknown : (t : ℕ) (xs : List Controlled) → position (is_train t) xs ≡ None → is_some (find_controlled t xs) ≡ false
 unknown t xs h = rw (absent t xs h) refl
+
+-- the first train of an id, by how many have a lesser one
+pub index_is : (t : ℕ) (xs : List Controlled) (i : ℕ) (d : Controlled) → i < length xs → ((k : ℕ) (e : Controlled) → k < i → (get_or xs k e).id.0 < t) → (get_or xs i d).id.0 ≡ t
+    → Some i ≡ position (is_train t) xs
+index_is t xs i d l below here =
+    let e = position_or_len_is (is_train t) xs i d (omega arith) (λ k b. let less = below k d b in grind (arith, nat_tests)) (λ b. grind (arith, nat_tests)) in
+    let m : nat_lt i (length xs) ≡ true = grind (arith, nat_tests) in
+    rw (e, m) refl
+
+pub no_index : (t : ℕ) (xs : List Controlled) (i : ℕ) → Ascend xs → ((k : ℕ) (e : Controlled) → k < i → (get_or xs k e).id.0 < t)
+    → ((k : ℕ) (e : Controlled) → i ≤ k → k < length xs → t ≤ (get_or xs k e).id.0) → (i < length xs → (e : Controlled) → (get_or xs i e).id.0 ≡ t → ⊥)
+    → None ≡ position (is_train t) xs
+no_index t [] i up below rest other = refl
+no_index t (x ∷ xs) i up below rest other =
+    let all = x ∷ xs in
+    let e = position_or_len_is (is_train t) all (length all) x (omega arith) (λ k b. fails k b) (λ b. absurd (omega arith)) in
+    let m : nat_lt (length all) (length all) ≡ false = grind (arith, nat_tests) in
+    rw (e, m) refl
+  where
+    fails : (k : ℕ) → k < length (x ∷ xs) → is_train t (get_or (x ∷ xs) k x) ≡ false
+    fails k b = by_test (nat_lt k i)
+        (λ y. let less = below k x (grind (arith, nat_tests)) in grind (arith, nat_tests))
+        (λ n.
+        let le : i ≤ k = grind (arith, nat_tests) in
+        let least = rest i x (omega arith) (omega arith) in
+        let rises = up i k x le b in
+        by_test (nat_eq (get_or (x ∷ xs) i x).id.0 t)
+        (λ y. absurd (other (omega arith) x (grind (arith, nat_tests))))
+        (λ z. grind (arith, nat_tests)))
+
+pub known_is : (t : ℕ) (xs : List Controlled) (place : Option ℕ) → place ≡ position (is_train t) xs → is_some place ≡ is_some (find_controlled t xs)
+known_is t xs None h = sym (unknown t xs (sym h))
+known_is t xs (Some i) h = sym (known t xs i (sym h))
 
 -- what holds of all trains
 

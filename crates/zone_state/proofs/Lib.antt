@@ -7,4 +7,4 @@ pub mod Alarms
 pub mod Placed
 pub mod Advanced
 pub mod Holds
-pub mod Asked
+pub mod Kept

@@ -1,5 +1,7 @@
 -- What a zone keeps, and what holds of it.
-use Rattle.std.specs.Prelude.{◌≡◌, ℕ, suc, List, [], ◌∷◌, ◌+◌, ◌≤◌, length, map, filter, if◌then◌else◌, Bool, true, ◌&&◌, not, nat_eq, nat_lt, max, Option, Some, None, ⊤}
+use Rattle.std.specs.Prelude.{◌≡◌, ℕ, List, [], ◌∷◌, ◌+◌, ◌≤◌, length, map, filter, Bool, true, ◌&&◌, not, nat_eq, nat_lt, max, Option, Some, None, ⊤}
+use Rattle.std.specs.List.{list_all}
+use Rattle.std.specs.List.Sorted.{IsNonDecreasingBy}
 use Rattle.track_points.specs.declared.ids.DirSeg.{DirSeg}
 use Rattle.track_points.specs.declared.ids.TrainId.{TrainId}
 use Rattle.track_points.specs.declared.path.Path.{Path}
@@ -14,7 +16,7 @@ use Rattle.definitions.specs.declared.outcome.Outcome.TheVariants as out
 use Rattle.definitions.specs.Steps.{Effect}
 use Rattle.way_path.specs.Ways.{IsWay, OnLine, EndsWithPath}
 use Rattle.plain_state.specs.declared.Controlled.{Controlled}
-use Rattle.plain_state.specs.Zone.{PlainZone, hold_has, envelope_has, alarm_of, grown_train}
+use Rattle.plain_state.specs.Zone.{PlainZone, hold_has, envelope_has, alarm_of, grown_train, fresh_train}
 use Rattle.plain_state.specs.Refinement.{Distinct}
 use Rattle.zone_reach.specs.Reach.{ReachFits}
 
@@ -22,6 +24,16 @@ use Rattle.zone_reach.specs.Reach.{ReachFits}
 pub record ZoneKept : Type 0 where
   pub plain : PlainZone
   pub holds : List Points
+
+-- trains stand by ascending id
+abbrev pub Ascend : List Controlled → Type 0
+Ascend trains = IsNonDecreasingBy (λ x. x.id.0) trains
+
+-- what a zone keeps of its trains: what is held for each stands beside it, they ascend, and whether each is fresh is known
+pub record AreKept (trains : List Controlled) (holds : List Points) (fresh : Bool) : Type 0 where
+  pub beside : length holds ≡ length trains
+  pub ascend : Ascend trains
+  pub all : fresh ≡ list_all fresh_train trains
 
 -- what holds of a train that the zone controls, on its line, at the zone's Now
 pub record TrainFits (line : Line) (clock : ℕ) (x : Controlled) : Type 0 where
@@ -102,17 +114,12 @@ IsEnvelope layout _ _ = ⊥
 abbrev pub is_train : ℕ → Controlled → Bool
 is_train t x = nat_eq x.id.0 t
 
--- a train that falls silent as Now rises, on a line where one is silent more than these ms behind its last report
+-- a train that falls silent as Now rises, on a line where one is silent more than these ms after its last report
 abbrev pub falls_silent : ℕ → ℕ → ℕ → Controlled → Bool
 falls_silent ms before clock x = not (nat_lt (x.report + ms) before) && nat_lt (x.report + ms) clock
 
 abbrev pub alarms_of : ℕ → ℕ → ℕ → ℕ → List Controlled → List Outcome
 alarms_of ms z before clock trains = map (alarm_of z) (filter (falls_silent ms before clock) trains)
-
--- the index at which a train goes in: before the first of a greater id
-unfoldable pub place_for : ℕ → List Controlled → ℕ
-place_for t [] = 0
-place_for t (x ∷ xs) = if nat_lt t x.id.0 then 0 else suc (place_for t xs)
 
 abbrev pub ReachFitsFound : Line → Option Path → List DirSeg → ℕ → Type 0
 ReachFitsFound line None asked distance = ⊤

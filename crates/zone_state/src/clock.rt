@@ -1,15 +1,17 @@
 //! What the time does to the trains: their fronts grow, and those that no report tells of fall silent.
 ghost use Rattle.std.specs.Prelude.{nat_lt, ◌≡◌, ◌≤◌, ◌+◌, ◌++◌, ℕ, List, length, map, max};
 ghost use Rattle.definitions.specs.declared.item.Item.{Item};
+ghost use Rattle.definitions.specs.Track.{silent_after};
 ghost use Rattle.plain_state.specs.Zone.{grown_train};
 ghost use Rattle.zone_state.specs.Zone.{ZoneFits, CanGrow, AllCanGrow, passed, falls_silent, alarms_of};
 
 use crate::zone::Zone;
+use line_map::Line;
 use msg_codec::{Outcome, Outs};
 use plain_state::Controlled;
 use track_points::ZoneId;
 
-/// Whether a train is silent at a Now, which is more than some ms behind its last report.
+/// Whether a train is silent at a Now, which is more than some ms after its last report.
 #[tactic(auto, using(crate::proofs::Timed::silent_is))]
 pub fn is_silent(ms: u64, report: u64, clock: u64) -> bool
     ensures { result ≡ nat_lt (report + ms) clock }
@@ -44,16 +46,15 @@ fn falls_silent(ms: u64, before: u64, clock: u64, x: &Controlled) -> bool
     !is_silent(ms, x.report, before) && is_silent(ms, x.report, clock)
 }
 
-/// Tells each train that falls silent as Now rises, which is one more than some ms behind its last report.
-pub fn alarms(ms: u64, zone: u8, before: u64, clock: u64, trains: &[Controlled], outs: &mut Outs)
+/// Tells each train that falls silent as Now rises, which is one more than some ms after its last report.
+fn alarms(ms: u64, zone: u8, before: u64, clock: u64, trains: &[Controlled], outs: &mut Outs)
     requires { length outs.old.lines + length trains.now ≤ 1100 }
     ensures { outs.new ≡ record { issued = outs.old.issued; lines = outs.old.lines ++ alarms_of ms zone before clock trains.now } }
 {
-    if let [x, rest @ ..] = trains {
+    for x in trains {
         if falls_silent(ms, before, clock, x) {
             outs.tell(Outcome::AlarmSilent(ZoneId(zone), x.id));
         }
-        alarms(ms, zone, before, clock, rest, outs);
     }
 }
 
@@ -67,6 +68,23 @@ impl Zone {
         if self.clock < time {
             grow_each(self.trains.as_mut_slice(), self.clock, time);
             self.clock = time;
+        }
+    }
+
+    /// Tells each train that falls silent as Now has risen from a time; none does where it has not risen.
+    pub(crate) fn tell_alarms(&self, line: &Line, before: u64, outs: &mut Outs)
+        requires { length outs.old.lines + length self.now.plain.trains ≤ 1100 }
+        ensures { outs.new ≡ record { issued = outs.old.issued; lines = outs.old.lines ++ alarms_of (silent_after line.now) self.now.plain.id before self.now.plain.clock self.now.plain.trains } }
+    {
+        if before < self.clock {
+            alarms(
+                line.silent(),
+                self.id,
+                before,
+                self.clock,
+                self.trains.as_slice(),
+                outs,
+            );
         }
     }
 }

@@ -1,13 +1,14 @@
 //! What a report does: it narrows the fronts of its train, and the way is cut behind the rear.
-ghost use Rattle.std.specs.Prelude.{◌≡◌, ◌≤◌, ◌+◌, ◌∷◌, [], Some, if◌then◌else◌};
+ghost use Rattle.std.specs.Prelude.{◌≡◌, ◌≤◌, ◌+◌, ◌∷◌, [], Some, true, if◌then◌else◌};
+ghost use Rattle.std.specs.List.{list_all};
 ghost use Rattle.definitions.specs.Track.{seg_len};
 ghost use Rattle.definitions.specs.Steps.{nothing};
 ghost use Rattle.way_path.specs.Ways.{place_of};
-ghost use Rattle.plain_state.specs.Zone.{find_controlled, change_controlled, uses_mark, place_found, place_of_train, narrowed_train, reported_by, cut_at_rear};
+ghost use Rattle.plain_state.specs.Zone.{find_controlled, change_controlled, uses_mark, place_found, place_of_train, narrowed_train, reported_by, cut_at_rear, fresh_train};
 ghost use Rattle.zone_state.specs.Zone.{TrainFits, TrainStands, IsHold, ZoneFits};
 
-use crate::trains::{hold_of, train_index};
-use crate::zone::Zone;
+use crate::trains::hold_of;
+use crate::zone::{Zone, fresh_train};
 use line_map::Line;
 use msg_codec::{Outcome, Outs};
 use plain_state::Controlled;
@@ -95,17 +96,19 @@ impl Zone {
         requires empty { outs.old ≡ nothing }
         requires earlier { report.time ≤ self.old.plain.clock }
         requires fits { ZoneFits line.now self.old }
+        requires fresh { list_all fresh_train self.old.plain.trains ≡ true }
         ensures gives { outs.new ≡ (if uses_mark (find_controlled train.0 self.old.plain.trains) report.mark then place_found (seg_len line.now) self.old.plain.id report.time report.mark report.offset report.integrity (find_controlled train.0 self.old.plain.trains) else nothing) }
         ensures next { self.new.plain ≡ record self.old.plain { trains = if uses_mark (find_controlled train.0 self.old.plain.trains) report.mark then change_controlled train.0 (reported_by (seg_len line.now) report.time report.mark report.offset report.integrity) self.old.plain.trains else self.old.plain.trains } }
         ensures fits { ZoneFits line.now self.new }
     {
-        if let Some(i) = train_index(self.trains.as_slice(), train) {
+        if let Some(i) = self.index_of(train) {
             if let Some(place) = self.trains[i]
                 .way
                 .place_of(line, report.mark, report.offset)
             {
                 let hold = use_report(line, self.id, &mut self.trains[i], place, report, outs);
                 self.holds[i] = hold;
+                self.fresh = fresh_train(&self.trains[i]);
             }
         }
     }

@@ -1,5 +1,5 @@
 //! The trains that a zone controls, and what each kind of message does to them.
-ghost use Rattle.std.specs.Prelude.{◌≡◌, ◌≤◌, ◌<◌, ◌+◌, ◌&&◌, List, length, nat_eq, true, false, Some, None, IfSome, is_some, if◌then◌else◌};
+ghost use Rattle.std.specs.Prelude.{ℕ, ◌≡◌, ◌≤◌, ◌<◌, ◌+◌, ◌&&◌, List, length, slice_index_or, nat_eq, true, false, Some, None, IfSome, is_some};
 ghost use Rattle.std.specs.List.{list_all, position};
 ghost use Rattle.track_points.specs.Points.{Point, has_between};
 ghost use Rattle.track_points.specs.Sets.{set_has};
@@ -9,10 +9,11 @@ ghost use Rattle.definitions.specs.Steps.{nothing, zone_ask, zone_entry, deny, r
 ghost use Rattle.way_path.specs.Ways.{IsWay, OnLine, EndsWithPath};
 ghost use Rattle.plain_state.specs.Zone.{find_controlled, change_controlled, answered_by, lengthened, last_found, path_found, way_found, again_found, placed_train, reach_plain, holder_plain, full, fresh_train, trains_asked, trains_entered, train_at_entry, entry_way};
 ghost use Rattle.zone_reach.specs.Reach.{reach_value, ReachFits};
-ghost use Rattle.zone_state.specs.Zone.{TrainFits, AllFit, IsHold, ZoneFits, is_train, ReachFitsFound, path_granted, place_for};
+ghost use Rattle.plain_state.specs.declared.Controlled.{Controlled};
+ghost use Rattle.zone_state.specs.Zone.{TrainFits, AllFit, IsHold, ZoneFits, Ascend, is_train, ReachFitsFound, path_granted};
 
 use crate::clock::is_silent;
-use crate::zone::Zone;
+use crate::zone::{Zone, fresh_train};
 use arrayvec::ArrayVec;
 use definitions::outcome::{Obstacle, Refusal};
 use envelope::Fronts;
@@ -26,12 +27,28 @@ use zone_reach::held::holder;
 use zone_reach::reach::{Reach, barred, reach_from};
 use zone_reach::steps::lengthen_way;
 
-/// Where a train stands among those that the zone controls.
-pub fn train_index(trains: &[Controlled], train: TrainId) -> Option<usize>
+/// How many trains have an id below a number. They stand before all others.
+fn count_below(trains: &[Controlled], id: u32) -> usize
+    requires { Ascend trains.now }
+    ensures within { result ≤ length trains.now }
+    ensures below { (k : ℕ) (d : Controlled) → k < result → (slice_index_or trains.now k d).id.0 < id }
+    ensures rest { (k : ℕ) (d : Controlled) → result ≤ k → k < length trains.now → id ≤ (slice_index_or trains.now k d).id.0 }
+{
+    trains.partition_point(|x| u32::from(x.id.0) < id)
+}
+
+/// Where a train stands among some.
+fn train_index(trains: &[Controlled], train: TrainId) -> Option<usize>
+    requires { Ascend trains.now }
     ensures first { result ≡ position (is_train train.0) trains.now }
     ensures within { IfSome result (λ i. i < length trains.now) }
 {
-    trains.iter().position(|x| x.id.0 == train.0)
+    let i = count_below(trains, u32::from(train.0));
+    if i < trains.len() && trains[i].id.0 == train.0 {
+        Some(i)
+    } else {
+        None
+    }
 }
 
 fn count_answer(x: &mut Controlled, number: u32)
@@ -190,16 +207,6 @@ fn entered(zone: u8, train: TrainId, step: DirSeg, room: u32, outs: &mut Outs)
     );
 }
 
-/// Whether the zone controls the train.
-fn knows(trains: &[Controlled], train: TrainId) -> bool
-    ensures { result ≡ is_some (find_controlled train.0 trains.now) }
-{
-    match train_index(trains, train) {
-        Some(_) => true,
-        None => false,
-    }
-}
-
 /// Whether the zone has no room for a further train.
 fn is_full(trains: &[Controlled]) -> bool
     ensures full { result ≡ full trains.now }
@@ -208,53 +215,58 @@ fn is_full(trains: &[Controlled]) -> bool
     trains.len() >= 256
 }
 
-/// The index at which a train goes in: before the first of a greater id.
-#[tactic(auto, unfolding(crate::specs::Zone::place_for))]
-fn place_for(trains: &[Controlled], train: TrainId) -> usize
-    ensures place { result ≡ place_for train.0 trains.now }
-    ensures within { result ≤ length trains.now }
-{
-    match trains {
-        [] => 0,
-        [x, rest @ ..] => {
-            if train.0 < x.id.0 {
-                0
-            } else {
-                1 + place_for(rest, train)
-            }
-        }
-    }
-}
-
 impl Zone {
+    /// Where a train stands among those that the zone controls.
+    pub(crate) fn index_of(&self, train: TrainId) -> Option<usize>
+        ensures first { result ≡ position (is_train train.0) self.now.plain.trains }
+        ensures within { IfSome result (λ i. i < length self.now.plain.trains) }
+    {
+        train_index(self.trains.as_slice(), train)
+    }
+
+    /// Where a further train goes in: after those of no greater id.
+    fn place_for(&self, train: TrainId) -> usize
+        ensures within { result ≤ length self.now.plain.trains }
+        ensures below { (k : ℕ) (d : Controlled) → k < result → (slice_index_or self.now.plain.trains k d).id.0 ≤ train.0 }
+        ensures rest { (k : ℕ) (d : Controlled) → result ≤ k → k < length self.now.plain.trains → train.0 < (slice_index_or self.now.plain.trains k d).id.0 }
+    {
+        count_below(self.trains.as_slice(), u32::from(train.0) + 1)
+    }
+
+    /// Whether the zone controls the train.
+    fn knows(&self, train: TrainId) -> bool
+        ensures { result ≡ is_some (find_controlled train.0 self.now.plain.trains) }
+    {
+        self.index_of(train).is_some()
+    }
+
     /// Counts an answer of a train, to a number that was issued and is above the greatest counted.
     pub(crate) fn answer(&mut self, train: TrainId, number: u32)
+        requires { list_all fresh_train self.old.plain.trains ≡ true }
         ensures next { self.new.plain ≡ record self.old.plain { trains = change_controlled train.0 (answered_by number) self.old.plain.trains } }
         ensures fits { (line : List Item) → ZoneFits line self.old → ZoneFits line self.new }
     {
-        if let Some(i) = train_index(self.trains.as_slice(), train) {
+        if let Some(i) = self.index_of(train) {
             count_answer(&mut self.trains[i], number);
+            self.fresh = fresh_train(&self.trains[i]);
         }
     }
 
-    /// How far an ask of a train reaches.
-    fn reach_of(&self, line: &Line, train: TrainId, asked: &[DirSeg], to: u32) -> Reach
+    /// How far an ask of a train reaches, which stands at an index.
+    fn reach_of(&self, line: &Line, i: usize, train: TrainId, asked: &[DirSeg], to: u32) -> Reach
         requires few { length asked.now ≤ 24 }
         requires fits { AllFit line.now self.now.plain.clock self.now.plain.trains }
+        requires at { position (is_train train.0) self.now.plain.trains ≡ Some i }
+        requires within { i < length self.now.plain.trains }
         ensures reach { reach_value result ≡ reach_plain line.now self.now.plain.id self.now.plain.clock self.now.plain.trains train.0 asked.now to }
         ensures fits { ReachFitsFound line.now (path_found (find_controlled train.0 self.now.plain.trains)) asked.now result.distance }
     {
         let trains = self.trains.as_slice();
-        match train_index(trains, train) {
-            None => barred(Obstacle::NotJoined),
-            Some(i) => {
-                let x = &trains[i];
-                let ready = x.answered > 0;
-                let silent = is_silent(line.silent(), x.report, self.clock);
-                let path = x.way.path();
-                reach_from(line, self.id, trains, train, ready, silent, path, asked, to)
-            }
-        }
+        let x = &trains[i];
+        let ready = x.answered > 0;
+        let silent = is_silent(line.silent(), x.report, self.clock);
+        let path = x.way.path();
+        reach_from(line, self.id, trains, train, ready, silent, path, asked, to)
     }
 
     /// Answers an ask of a train.
@@ -274,15 +286,17 @@ impl Zone {
         ensures next { self.new.plain ≡ record self.old.plain { trains = trains_asked (seg_len line.now) train.0 asked.now (reach_plain line.now self.old.plain.id self.old.plain.clock self.old.plain.trains train.0 asked.now to) self.old.plain.trains } }
         ensures fits { ZoneFits line.now self.new }
     {
-        let reach = self.reach_of(line, train, asked, to);
+        let Some(i) = self.index_of(train) else {
+            return denied(self.id, train, barred(Obstacle::NotJoined), outs);
+        };
+        let reach = self.reach_of(line, i, train, asked, to);
         if reach.distance == 0 {
             return denied(self.id, train, reach, outs);
         }
-        if let Some(i) = train_index(self.trains.as_slice(), train) {
-            let hold = lengthen(line, self.id, &mut self.trains[i], asked, reach.distance);
-            self.holds[i] = hold;
-            granted(self.id, train, &self.trains[i], reach.obstacle, outs);
-        }
+        let hold = lengthen(line, self.id, &mut self.trains[i], asked, reach.distance);
+        self.holds[i] = hold;
+        granted(self.id, train, &self.trains[i], reach.obstacle, outs);
+        self.fresh = fresh_train(&self.trains[i]);
     }
 
     /// Sends the last authority of a train again where its number is not answered.
@@ -290,11 +304,10 @@ impl Zone {
         requires { outs.old ≡ nothing }
         ensures { outs.new ≡ again_found train (find_controlled train.0 self.now.plain.trains) }
     {
-        let trains = self.trains.as_slice();
-        let Some(i) = train_index(trains, train) else {
+        let Some(i) = self.index_of(train) else {
             return;
         };
-        let x = &trains[i];
+        let x = &self.trains[i];
         if x.answered < x.last {
             outs.send(
                 0,
@@ -311,10 +324,11 @@ impl Zone {
     /// Puts a train among those that the zone controls, which has room for it, and beside it what is held for it.
     fn put(&mut self, x: Controlled, hold: PointSet)
         requires few { length self.old.plain.trains < 256 }
+        requires fresh { fresh_train x ≡ true }
         ensures next { self.new.plain ≡ record self.old.plain { trains = placed_train x self.old.plain.trains } }
         ensures fits { (line : List Item) → TrainFits line self.old.plain.clock x → IsHold line self.old.plain.id x hold → ZoneFits line self.old → ZoneFits line self.new }
     {
-        let index = place_for(self.trains.as_slice(), x.id);
+        let index = self.place_for(x.id);
         let _ = self.trains.insert(index, x);
         let _ = self.holds.insert(index, hold);
     }
@@ -330,7 +344,7 @@ impl Zone {
         ensures fits { ZoneFits line.now self.new }
     {
         let train = request.train;
-        if knows(self.trains.as_slice(), train) {
+        if self.knows(train) {
             return refused(self.id, train, Refusal::Known, outs);
         }
         if is_full(self.trains.as_slice()) {

@@ -7,12 +7,11 @@ ghost use Rattle.definitions.specs.Track.{layout};
 ghost use Rattle.definitions.specs.Control.{message_time};
 ghost use Rattle.definitions.specs.Steps.{nothing};
 ghost use Rattle.plain_state.specs.Plain.{zone_start};
-ghost use Rattle.plain_state.specs.Zone.{find_controlled, hold_has, zone_heeds, zone_answer, zone_gives, trains_heeded, enters_here, fresh_number, fresh_mark, fresh_train, fresh_message, zone_take_effect, zone_take_next};
+ghost use Rattle.plain_state.specs.Zone.{find_controlled, hold_has, zone_acts_on, zone_answer, zone_gives, trains_acted_on, enters_here, fresh_number, fresh_mark, fresh_train, fresh_message, zone_take_effect, zone_take_next};
 ghost use Rattle.zone_state.specs.Zone.{ZoneFits, IsZoneOn, IsEnvelope, InRange, entry_declared};
 
-use crate::clock::alarms;
 use crate::report::PositionReport;
-use crate::trains::{Request, train_index};
+use crate::trains::Request;
 use line_map::Line;
 use msg_codec::{Msg, Outs};
 use plain_state::Controlled;
@@ -23,25 +22,27 @@ use track_points::{PointSet, TrainId, ZoneId};
 /// How many trains a zone has room for.
 const ROOM: usize = 256;
 
-/// A zone: its number, the greatest time in any message that it took, the trains that it controls, and beside each of
-/// them the points that it holds for it. Its memory is reserved when it is made.
+/// A zone: its number, the greatest time in any message that it took, the trains that it controls, by ascending id, and
+/// beside each of them the points that it holds for it. Its memory is reserved when it is made.
 #[derive(Drop)]
 pub struct Zone {
     pub(crate) id: u8,
     pub(crate) clock: u64,
     pub(crate) trains: Vec<Controlled>,
     pub(crate) holds: Vec<PointSet>,
+    /// Whether no number and no mark of a train is too great.
+    pub(crate) fresh: bool,
 }
 
 impl Model for Zone {
-    ghost use Rattle.std.specs.Prelude.{◌≡◌, ◌≤◌, length, vec_capacity};
-    ghost use Rattle.zone_state.specs.Zone.{ZoneKept};
+    ghost use Rattle.std.specs.Prelude.{◌≤◌, vec_capacity};
+    ghost use Rattle.zone_state.specs.Zone.{ZoneKept, AreKept};
 
     ghost Value = { ZoneKept };
 
     ghost view = { λ z. record { plain = record { id = z.id; clock = z.clock; trains = z.trains.items }; holds = z.holds.items } };
 
-    ghost invariant = { λ z. (256 ≤ vec_capacity z.trains) × ((256 ≤ vec_capacity z.holds) × (length z.holds.items ≡ length z.trains.items)) };
+    ghost invariant = { λ z. (256 ≤ vec_capacity z.trains) × ((256 ≤ vec_capacity z.holds) × AreKept z.trains.items z.holds.items z.fresh) };
 }
 
 /// The time in a message.
@@ -94,19 +95,10 @@ fn fresh_message(message: &Msg) -> bool
 }
 
 /// Whether no number and no mark of a train is too great.
-fn fresh_train(x: &Controlled) -> bool
+pub(crate) fn fresh_train(x: &Controlled) -> bool
     ensures { result ≡ fresh_train x.now }
 {
     fresh_number(x.last) && fresh_number(x.answered) && fresh_mark(x.way.mark())
-}
-
-fn all_fresh(trains: &[Controlled]) -> bool
-    ensures { result ≡ list_all fresh_train trains.now }
-{
-    match trains {
-        [] => true,
-        [x, rest @ ..] => fresh_train(x) && all_fresh(rest),
-    }
 }
 
 impl Zone {
@@ -120,6 +112,7 @@ impl Zone {
             clock: 0,
             trains: Vec::with_capacity(alloc, ROOM)?,
             holds: Vec::with_capacity(alloc, ROOM)?,
+            fresh: true,
         })
     }
 
@@ -138,15 +131,12 @@ impl Zone {
     }
 
     /// Whether it acts on a message.
-    fn heeds(&self, line: &Line, message: &Msg, from: u8) -> bool
-        ensures heeds { result ≡ zone_heeds line.now self.now.plain from message.now }
+    fn acts_on(&self, line: &Line, message: &Msg, from: u8) -> bool
+        ensures acts_on { result ≡ zone_acts_on line.now self.now.plain from message.now }
         ensures declared { result ≡ true → entry_declared line.now message.now ≡ true }
         ensures fresh { result ≡ true → list_all fresh_train self.now.plain.trains ≡ true }
     {
-        from == 0
-            && enters_here(line, self.id, message)
-            && fresh_message(message)
-            && all_fresh(self.trains.as_slice())
+        from == 0 && enters_here(line, self.id, message) && fresh_message(message) && self.fresh
     }
 
     /// A message acts, which the zone acts on.
@@ -158,7 +148,7 @@ impl Zone {
         requires empty { outs.old ≡ nothing }
         requires fits { ZoneFits line.now self.old }
         ensures gives { outs.new ≡ zone_answer line.now self.old.plain.id self.old.plain.clock self.old.plain.trains message.now }
-        ensures next { self.new.plain ≡ record self.old.plain { trains = trains_heeded line.now self.old.plain.id self.old.plain.clock self.old.plain.trains message.now } }
+        ensures next { self.new.plain ≡ record self.old.plain { trains = trains_acted_on line.now self.old.plain.id self.old.plain.clock self.old.plain.trains message.now } }
         ensures fits { ZoneFits line.now self.new }
     {
         match message {
@@ -215,9 +205,9 @@ impl Zone {
         ensures next { self.new.plain ≡ zone_take_next line.now self.old.plain from message.now }
         ensures fits { ZoneFits line.now self.new }
     {
-        let heeded = self.heeds(line, message, from);
+        let acted_on = self.acts_on(line, message, from);
         self.pass(message_time(message));
-        if heeded {
+        if acted_on {
             self.act(line, message, outs);
         }
     }
@@ -234,21 +224,14 @@ impl Zone {
     {
         let before = self.clock;
         self.take(line, message, from, outs);
-        alarms(
-            line.silent(),
-            self.id,
-            before,
-            self.clock,
-            self.trains.as_slice(),
-            outs,
-        );
+        self.tell_alarms(line, before, outs);
     }
 
     /// The points that it holds for a train; none where it does not control the train.
     pub fn held(&self, train: TrainId) -> PointSet
         ensures { (line : Line) → IsZoneOn line self.now → (point : Point) → set_has result point ≡ hold_has line self.now.plain.id (find_controlled train.0 self.now.plain.trains) point }
     {
-        match train_index(self.trains.as_slice(), train) {
+        match self.index_of(train) {
             None => PointSet::empty(),
             Some(i) => self.holds[i].copy(),
         }
@@ -259,7 +242,7 @@ impl Zone {
         requires { IsZoneOn line.now self.now }
         ensures { IsEnvelope (layout line.now) (find_controlled train.0 self.now.plain.trains) result }
     {
-        match train_index(self.trains.as_slice(), train) {
+        match self.index_of(train) {
             None => None,
             Some(i) => {
                 let x = &self.trains[i];

@@ -1,4 +1,4 @@
-//! Three segments in one zone: 1 of 1 m behind a portal, 2 of 500 mm, and 3 of 700 mm, passed down to a buffer.
+//! Three segments in one zone: 1 of 1 m after a portal, 2 of 500 mm, and 3 of 700 mm, passed down to a buffer.
 ghost use Rattle.std.specs.Prelude.{◌≡◌, true, IfOk};
 ghost use Rattle.definitions.specs.Rules.{is_line};
 
@@ -69,14 +69,43 @@ pub fn path(steps: &[DirSeg], from: u32, to: u32) -> Path {
     }
 }
 
-/// What is declared of a segment: its length and its zone.
-fn declared(line: &Line, seg: u16) -> Option<(u32, ZoneId)> {
+/// The length of a segment in mm and its zone; no segment that is not declared has one.
+fn declared(line: &Line, seg: u16) -> [u32; 2] {
     let s = SegId(seg);
     if line.has_segment(s) {
-        Some((line.seg_len(s), line.zone_of(s)))
+        [line.seg_len(s), u32::from(line.zone_of(s).0)]
     } else {
-        None
+        [0, 0]
     }
+}
+
+/// The k-th zone and the k-th segment by ascending id, from 0; 0 where there are not more than k.
+fn listed(line: &Line, k: usize) -> [u32; 2] {
+    let zone = match line.zone(k) {
+        Some(zone) => u32::from(zone.0),
+        None => 0,
+    };
+    let segment = match line.segment(k) {
+        Some(segment) => u32::from(segment.0),
+        None => 0,
+    };
+    [zone, segment]
+}
+
+/// Whether the line tells of its segments and its zone what the items say.
+fn tells_all(line: &Line) -> bool {
+    declared(line, 1) == [1000, 3]
+        && declared(line, 2) == [500, 3]
+        && declared(line, 3) == [700, 3]
+        && declared(line, 4) == [0, 0]
+        && listed(line, 0) == [3, 1]
+        && listed(line, 1) == [0, 2]
+        && listed(line, 2) == [0, 3]
+        && listed(line, 3) == [0, 0]
+        && line.silent() == 5000
+        && line.follows(up(2), down(3))
+        && !line.follows(up(1), down(3))
+        && line.begins_at_portal(up(1))
 }
 
 #[test]
@@ -87,14 +116,6 @@ fn a_copy_tells_what_the_line_tells(rt: HostRuntime) {
     let Ok(copy) = line.copy(rt.alloc()) else {
         panic!(rt; "want of memory");
     };
-    assert_eq!(rt; declared(&copy, 1), declared(&line, 1));
-    assert_eq!(rt; declared(&copy, 2), Some((500, ZoneId(3))));
-    assert_eq!(rt; declared(&copy, 3), Some((700, ZoneId(3))));
-    assert_eq!(rt; declared(&copy, 4), None);
-    assert_eq!(rt; (copy.zone(0), copy.zone(1)), (Some(ZoneId(3)), None));
-    assert_eq!(rt; (copy.segment(2), copy.segment(3)), (Some(SegId(3)), None));
-    assert_eq!(rt; (copy.silent(), line.silent()), (5000, 5000));
-    assert!(rt; copy.follows(up(2), down(3)));
-    assert!(rt; !copy.follows(up(1), down(3)));
-    assert!(rt; copy.begins_at_portal(up(1)));
+    assert!(rt; tells_all(&line));
+    assert!(rt; tells_all(&copy));
 }

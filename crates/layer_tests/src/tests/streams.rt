@@ -1,10 +1,11 @@
 //! Streams in memory, which fail where they are told to, the standard ones, and the codes of a status.
 
+use edge_io::buffer::TextBuffer;
 use edge_io::memory::{SliceSource, VecSink};
 use edge_io::standard::{StdSink, StdSource};
 use edge_io::status::Status;
 use edge_io::stream::{Gate, Got, NoGate, Sink, Source, Took};
-use edge_io::writing::{WriteFault, write_text};
+use edge_io::writing::write_text;
 use std::alloc::AllocError;
 
 #[test]
@@ -24,9 +25,20 @@ fn a_sink_has_room(rt: HostRuntime) -> Result<(), AllocError> {
     let mut sink = VecSink::new(rt.alloc(), 3, &fails)?;
     assert!(rt; sink.write(b"ab") == Took::Bytes(2));
     assert!(rt; sink.write(b"c") == Took::Failed);
-    assert!(rt; write_text(&mut sink, b"c") == Ok(()));
-    assert!(rt; write_text(&mut sink, b"d") == Err(WriteFault));
+    assert!(rt; write_text(&mut sink, b"c").is_ok());
+    assert!(rt; write_text(&mut sink, b"d").is_err());
     assert!(rt; sink.bytes() == b"abc".as_slice());
+    Ok(())
+}
+
+#[test]
+fn a_buffer_grows(rt: HostRuntime) -> Result<(), AllocError> {
+    let mut buffer = TextBuffer::new(rt.alloc(), 2)?;
+    assert!(rt; buffer.write(b"ab") == Took::Bytes(2));
+    assert!(rt; write_text(&mut buffer, b"cde") == Ok(()));
+    assert!(rt; buffer.len() == 5 && buffer.as_slice() == b"abcde".as_slice());
+    buffer.clear();
+    assert!(rt; buffer.write(b"f") == Took::Bytes(1) && buffer.as_slice() == b"f".as_slice());
     Ok(())
 }
 
@@ -34,7 +46,7 @@ fn a_sink_has_room(rt: HostRuntime) -> Result<(), AllocError> {
 fn the_standard_streams_begin(rt: HostRuntime) {
     let _ = StdSource::new(rt.stdin());
     let mut sink = StdSink::new(rt.stdout());
-    assert!(rt; write_text(&mut sink, b"written\n") == Ok(()));
+    assert!(rt; write_text(&mut sink, b"written\n").is_ok());
     NoGate.pass(1, 1);
 }
 

@@ -1,4 +1,5 @@
 //! A way: made of a path, refused for a fault, asked for its places and points, and moved.
+ghost use Rattle.std.specs.Prelude.{◌≤◌};
 ghost use Rattle.way_path.specs.Ways.{OnLine};
 
 use crate::tests::line::{down, line_of, path, up};
@@ -28,6 +29,25 @@ fn add(rt: &impl Abort, line: &Line, way: &mut Way, step: DirSeg) -> Result<(), 
     way.extend(line, step)
 }
 
+/// Whether a place lies on a step at an offset.
+fn is_at(place: (DirSeg, u32), step: DirSeg, offset: u32) -> bool {
+    let (seen, mm) = place;
+    seen == step && mm == offset
+}
+
+/// Whether the points of a way from the last mm of segment 1 on, of all track and of the zone's own, are those.
+fn has_points(line: &Line, way: &Way) -> bool
+    requires from { way.now.path.from ≤ 999 }
+    requires end { 1502 ≤ way.now.end }
+{
+    let points = way.points(line, 999, 1502);
+    let own = way.points_in(line, ZoneId(3), 999, 1502);
+    points.has_cell(SegId(3), 698)
+        && !points.has_cell(SegId(3), 697)
+        && own.has_cell(SegId(1), 999)
+        && !own.has_cell(SegId(1), 998)
+}
+
 #[test]
 fn a_way_has_places(rt: HostRuntime) {
     let Ok(line) = line_of(rt.alloc()) else {
@@ -35,13 +55,10 @@ fn a_way_has_places(rt: HostRuntime) {
     };
     let way = way_of(&rt, &line, &path(&[up(1), up(2), down(3)], 20, 10));
     assert!(rt; way.mark() == 7 && way.from() == 20 && way.end() == 1510);
-    assert!(rt; way.front_at(&line, 1500) == (up(2), 500));
-    assert!(rt; way.rear_at(&line, 1500) == (down(3), 0));
+    assert!(rt; is_at(way.front_at(&line, 1500), up(2), 500));
+    assert!(rt; is_at(way.rear_at(&line, 1500), down(3), 0));
     assert!(rt; way.place_of(&line, 8, 5) == Some(1005));
-    let points = way.points(&line, 999, 1502);
-    let own = way.points_in(&line, ZoneId(3), 999, 1502);
-    assert!(rt; points.has_cell(SegId(3), 698) && !points.has_cell(SegId(3), 697));
-    assert!(rt; own.has_cell(SegId(1), 999) && !own.has_cell(SegId(1), 998));
+    assert!(rt; has_points(&line, &way));
 }
 
 /// The way up to a place.

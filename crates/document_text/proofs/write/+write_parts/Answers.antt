@@ -1,7 +1,7 @@
 use Rattle.std.proofs.Common.{List, ℕ, Err, subst, sym}
 use Rattle.edge_io.specs.Writing.{Wrote}
 use Rattle.edge_io.proofs.Wrote.{then, stop}
-use Rattle.document_text.proofs.Outcomes.{parts_none, parts_first}
+use Rattle.document_text.proofs.Part_texts.{parts_none, parts_first}
 use Rattle.document_text.proofs.write.+write_parts.Goals as goal
 
 pub returns-in-empty : goal.returns-in-empty

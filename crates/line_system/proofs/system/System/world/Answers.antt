@@ -1,4 +1,4 @@
-use Rattle.std.proofs.Common.{◌≡◌, reverse, subst}
+use Rattle.std.proofs.Common.{reverse, subst}
 use Rattle.definitions.specs.Steps.{story_of}
 use Rattle.line_system.specs.History.{History}
 use Rattle.line_system.specs.State.{parts, taken}

@@ -1,4 +1,4 @@
-use Rattle.std.proofs.Common.{◌≡◌, ℕ, reverse, refl, sym, subst, ◌∙◌}
+use Rattle.std.proofs.Common.{ℕ, reverse, refl, sym, subst, ◌∙◌}
 use Rattle.definitions.specs.Steps.{story_of}
 use Rattle.definitions.specs.Zones.{zone_id}
 use Rattle.zone_state.specs.Zone.{ZoneKept}

@@ -1,21 +1,31 @@
-use Rattle.std.proofs.Common.{sym, ap}
+use Rattle.std.proofs.Common.{◌∙◌, sym, ap}
 use Rattle.std.proofs.lemmas.Bool.{ne_eqb}
 use Rattle.definitions.specs.Endings.{outcomes_text}
+use Rattle.definitions.specs.Trace.{Step}
+use Rattle.byte_feed.specs.Feed.{Feed}
+use Rattle.byte_feed.proofs.Streams.{closed_none}
+use Rattle.byte_feed.proofs.Runs.{closed_run}
 use Rattle.run_engine.specs.Feeding.{feed_shown}
-use Rattle.byte_feed.proofs.Streams.{closed_none, closed_some}
-use Rattle.run_engine.proofs.Doing.{nothing, on_ok}
+use Rattle.run_engine.proofs.Doing.{on_ok}
+use Rattle.run_engine.proofs.Sending.{nothing, other_text}
 use Rattle.run_engine.proofs.feed.Feed.close.Goals as goal
 
-pub returns-then-self-eq0-clause-does : goal.returns-then-self-eq0-clause-does
-returns-then-self-eq0-clause-does g c =
-    nothing g.K.Sink.written g.K.Sink.faults _ _ _
-    (ap (λ x. outcomes_text x.lines) (closed_none (feed_shown c.args.self.now) c.if-self-eq0.true))
+pub returns-then-self-eq0-clause-sends : goal.returns-then-self-eq0-clause-sends
+returns-then-self-eq0-clause-sends g c =
+    nothing g.K.Sink.written g.K.Sink.faults _ _ _ _
+    (ap (λ (x : Step). outcomes_text x.lines) (closed_none (feed_shown c.args.self.now) c.if-self-eq0.true))
 
 pub returns-then-self-eq0-clause-next : goal.returns-then-self-eq0-clause-next
-returns-then-self-eq0-clause-next g c = sym (ap (λ x. x.next) (closed_none (feed_shown c.args.self.now) c.if-self-eq0.true))
+returns-then-self-eq0-clause-next g c = sym (ap (λ (x : Step). x.next) (closed_none (feed_shown c.args.self.now) c.if-self-eq0.true))
 
-pub returns-clause-does : goal.returns-clause-does
-returns-clause-does g c = rw (closed_some (feed_shown c.args.self.now) (ne_eqb _ _ c.if-self-eq0.false)) c.line.ensures.does
+pub returns-clause-sends : goal.returns-clause-sends
+returns-clause-sends g c =
+    let f = feed_shown c.args.self.now in
+    let is = closed_run f (ne_eqb _ _ c.if-self-eq0.false) in
+    other_text g.K.Sink.written g.K.Sink.faults _ _ _ _ _ _ _ (ap (λ (x : Step). outcomes_text x.lines) is) c.text_line.ensures.sends
 
 pub returns-clause-next : goal.returns-clause-next
-returns-clause-next g c = rw (closed_some (feed_shown c.args.self.now) (ne_eqb _ _ c.if-self-eq0.false)) (on_ok c.line.result (λ e. ap (λ f. f.reading) e) c.line.ensures.next)
+returns-clause-next g c =
+    let f = feed_shown c.args.self.now in
+    let is = closed_run f (ne_eqb _ _ c.if-self-eq0.false) in
+    on_ok c.text_line.result (λ h. ap (λ (x : Feed). x.reading) h ∙ ap (λ (x : Step). x.next) is) c.text_line.ensures.next

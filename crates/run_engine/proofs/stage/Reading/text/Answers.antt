@@ -1,16 +1,32 @@
 use Rattle.std.proofs.Common.{◌∙◌, ◌+◌, ap, sym, subst, arith}
-use Rattle.definitions.specs.Trace.{After}
-use Rattle.run_engine.specs.declared.stage.Stage.{Stage}
-use Rattle.run_engine.specs.Shown.{stage_shown, done_early, Steady}
+use Rattle.definitions.specs.declared.document.TextLine.{TextLine}
+use Rattle.definitions.specs.Trace.{Stage, After, Step, stage_read}
+use Rattle.run_engine.specs.Shown.{reading_shown, done_early, Steady}
 use Rattle.run_engine.proofs.Going.{never_done}
+use Rattle.run_engine.proofs.Stages.{after_line, text_is}
 use Rattle.run_engine.proofs.Steady.{steady_read}
 use Rattle.run_engine.proofs.stage.Reading.text.Goals as goal
 
+pub returns-clause-lines : goal.returns-clause-lines
+returns-clause-lines c =
+    let r = reading_shown c.args.self.now in
+    let after = ap (λ (s : Stage). after_line s c.read.new.lines.items) c.end_by.ensures ∙ (c.in_ok-ending.ensures ∙ ap (λ (t : TextLine). stage_read (r.number + 1) r.stage t) c.text_line.ensures) in
+    ap (λ (x : After). x.lines) after ∙ sym (ap (λ (s : Step). s.lines) (text_is r c.args.size c.args.text.now (sym c.is_over.ensures ∙ c.if-is_over.false) c.if-self-size-gt-INPUT_LIMIT.false))
+
+pub returns-clause-next : goal.returns-clause-next
+returns-clause-next c =
+    let r = reading_shown c.args.self.now in
+    let after = ap (λ (s : Stage). after_line s c.read.new.lines.items) c.end_by.ensures ∙ (c.in_ok-ending.ensures ∙ ap (λ (t : TextLine). stage_read (r.number + 1) r.stage t) c.text_line.ensures) in
+    ap (λ (x : After). record { number = r.number + 1; bytes = r.bytes + c.args.size; stage = x.stage }) after
+    ∙ sym (ap (λ (s : Step). s.next) (text_is r c.args.size c.args.text.now (sym c.is_over.ensures ∙ c.if-is_over.false) c.if-self-size-gt-INPUT_LIMIT.false))
+
 pub returns-clause-small : goal.returns-clause-small
-returns-clause-small c = record {
-  number = omega (arith, c.requires.small.number, c.requires.some);
-  bytes = c.if-self-size-gt-INPUT_LIMIT.false;
-  going = ap (λ (x : After). done_early x.stage) c.in_ok-stage.ensures ∙ never_done _ (stage_shown c.replace-stage.result) _ (ap (λ (s : Stage). done_early (stage_shown s)) c.replace-stage.ensures.value ∙ c.requires.small.going);
-  steady = subst (λ (x : After). Steady (c.args.self.now.number + 1) x.stage) (sym c.in_ok-stage.ensures)
-      (steady_read _ _ (stage_shown c.replace-stage.result) _ (subst (λ (s : Stage). Steady c.args.self.now.number (stage_shown s)) (sym c.replace-stage.ensures.value) c.requires.small.steady));
-}
+returns-clause-small c =
+    let r = reading_shown c.args.self.now in
+    let after = ap (λ (s : Stage). after_line s c.read.new.lines.items) c.end_by.ensures ∙ c.in_ok-ending.ensures in
+    record {
+      number = omega (arith, c.requires.small.number, c.requires.some);
+      bytes = c.if-self-size-gt-INPUT_LIMIT.false;
+      going = ap (λ (x : After). done_early x.stage) after ∙ never_done _ r.stage _ c.requires.small.going;
+      steady = subst (λ (x : After). Steady (r.number + 1) x.stage) (sym after) (steady_read _ _ r.stage _ c.requires.small.steady);
+    }

@@ -1,9 +1,33 @@
+use Rattle.std.proofs.Common.{refl, sym, ap}
+use Rattle.plain_state.specs.declared.WorldTrain.{WorldTrain}
 use Rattle.plain_state.specs.World.{come_on}
-use Rattle.world_sim.proofs.Listed.{replaced}
+use Rattle.world_sim.proofs.Listed.{found_is, absent, changed_is, unchanged, kept_set}
 use Rattle.world_sim.proofs.world.World.enter.Goals as goal
 
-pub returns-in-Some-authority-clause-next : goal.returns-in-Some-authority-clause-next
-returns-in-Some-authority-clause-next c = replaced c.args.train.0 come_on c.in-Some.found c.come_on.result c.args.self.now c.replace.new.self c.replace.ensures c.come_on.ensures c.in-Some.ensures.found
+pub invariant_of-self : goal.invariant_of-self
+invariant_of-self c =
+    let l = rw (sym c.self.view_is) at c.in-Some.ensures.within in (
+      c.self.invariant.0,
+      kept_set c.self.inside.places c.self.inside.trains.items c.in-Some.i c.index_mut.result.now c.come_on.new.train c.self.invariant.1 l c.index_mut.ensures.value
+          (ap (λ (x : WorldTrain). x.id) c.come_on.ensures) (ap (λ (x : WorldTrain). x.speed) c.come_on.ensures),
+    )
 
-pub returns-in_default-authority-clause-next : goal.returns-in_default-authority-clause-next
-returns-in_default-authority-clause-next c = replaced c.args.train.0 come_on c.in-Some.found c.come_on.result c.args.self.now c.replace.new.self c.replace.ensures c.come_on.ensures c.in-Some.ensures.found
+pub returns-in-Some-clause-gives : goal.returns-in-Some-clause-gives
+returns-in-Some-clause-gives c =
+    let h = rw (sym c.self.view_is) at (sym c.in-Some.ensures.first) in
+    rw (← c.self.view_is, found_is c.args.train.0 c.self.inside.trains.items c.in-Some.i c.index.result.now h c.index.ensures) c.answer_entry.ensures
+
+pub returns-in-Some-clause-next : goal.returns-in-Some-clause-next
+returns-in-Some-clause-next c =
+    let h = rw (sym c.self.view_is) at (sym c.in-Some.ensures.first) in
+    rw (← c.self.view_is, changed_is c.args.train.0 come_on c.self.inside.trains.items c.in-Some.i c.index_mut.result.now c.come_on.new.train h c.index_mut.ensures.value c.come_on.ensures) refl
+
+pub returns-in_default-clause-gives : goal.returns-in_default-clause-gives
+returns-in_default-clause-gives c =
+    let h = rw (sym c.self.view_is) at (sym c.in_default.ensures.first) in
+    rw (← c.self.view_is, absent c.args.train.0 c.self.inside.trains.items h) c.requires
+
+pub returns-in_default-clause-next : goal.returns-in_default-clause-next
+returns-in_default-clause-next c =
+    let h = rw (sym c.self.view_is) at (sym c.in_default.ensures.first) in
+    rw (← c.self.view_is, unchanged c.args.train.0 come_on c.self.inside.trains.items h) refl

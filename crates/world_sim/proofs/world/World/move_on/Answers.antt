@@ -1,6 +1,42 @@
-use Rattle.plain_state.specs.World.{moved_train}
-use Rattle.world_sim.proofs.Listed.{replaced}
+use Rattle.std.proofs.Common.{◌≡◌, true, refl, sym, ap, arith, nat_le}
+use Rattle.std.proofs.lemmas.Bool.{and_parts}
+use Rattle.std.proofs.lemmas.Bool.Decides.{nat_tests}
+use Rattle.plain_state.specs.declared.WorldTrain.{WorldTrain}
+use Rattle.plain_state.specs.World.{moved_train, on_found, room_found, find_train}
+use Rattle.plain_state.specs.Admits.{may_move_found}
+use Rattle.world_sim.specs.World.{AllOn}
+use Rattle.world_sim.proofs.Listed.{found_is, found_on, absent, changed_is, unchanged, kept_set}
 use Rattle.world_sim.proofs.world.World.move_on.Goals as goal
 
+pub move_on-requires-clause-head : goal.move_on-requires-clause-head
+move_on-requires-clause-head c =
+    let h = rw (sym c.self.view_is) at (sym c.in-Some.ensures.first) in
+    let f = found_is c.args.train.0 c.self.inside.trains.items c.in-Some.i c.index_mut.result.now h c.index_mut.ensures.value in
+    let each : AllOn c.args.line.now c.self.inside.trains.items = rw (sym c.self.view_is) at c.requires.each in
+    (found_on c.args.line.now c.args.train.0 c.index_mut.result.now c.self.inside.trains.items f each).head
+
+pub move_on-requires-clause-room : goal.move_on-requires-clause-room
+move_on-requires-clause-room c =
+    let h = rw (sym c.self.view_is) at (sym c.in-Some.ensures.first) in
+    let f = found_is c.args.train.0 c.self.inside.trains.items c.in-Some.i c.index_mut.result.now h c.index_mut.ensures.value in
+    let may : may_move_found c.self.inside.trains.items (c.args.train, c.args.mm) ≡ true = rw (sym c.self.view_is) at c.requires.may in
+    let k = and_parts (on_found (find_train c.args.train.0 c.self.inside.trains.items)) (nat_le c.args.mm (room_found (find_train c.args.train.0 c.self.inside.trains.items))) may in
+    let t = rw f at k.1 in grind (arith, nat_tests)
+
+pub invariant_of-self : goal.invariant_of-self
+invariant_of-self c =
+    let l = rw (sym c.self.view_is) at c.in-Some.ensures.within in (
+      c.self.invariant.0,
+      kept_set c.self.inside.places c.self.inside.trains.items c.in-Some.i c.index_mut.result.now c.move_on.new.train c.self.invariant.1 l c.index_mut.ensures.value
+          (ap (λ (x : WorldTrain). x.id) c.move_on.ensures) (ap (λ (x : WorldTrain). x.speed) c.move_on.ensures),
+    )
+
 pub returns-in-Some : goal.returns-in-Some
-returns-in-Some c = replaced c.args.train.0 (moved_train c.args.line.now c.args.mm) c.in-Some.found c.moved.result c.args.self.now c.replace.new.self c.replace.ensures c.moved.ensures c.in-Some.ensures.found
+returns-in-Some c =
+    let h = rw (sym c.self.view_is) at (sym c.in-Some.ensures.first) in
+    rw (← c.self.view_is, changed_is c.args.train.0 (moved_train c.args.line.now c.args.mm) c.self.inside.trains.items c.in-Some.i c.index_mut.result.now c.move_on.new.train h c.index_mut.ensures.value c.move_on.ensures) refl
+
+pub returns-in_default : goal.returns-in_default
+returns-in_default c =
+    let h = rw (sym c.self.view_is) at (sym c.in_default.ensures.first) in
+    rw (← c.self.view_is, unchanged c.args.train.0 (moved_train c.args.line.now c.args.mm) c.self.inside.trains.items h) refl

@@ -3,7 +3,14 @@ use Rattle.plain_state.specs.Zone.{grown_train}
 use Rattle.zone_state.proofs.Timed.{all_grown_fit, none_passes}
 use Rattle.zone_state.proofs.Found.{written}
 use Rattle.zone_state.proofs.Holds.{holds_mapped}
+use Rattle.zone_state.proofs.Kept.{kept_grown}
 use Rattle.zone_state.proofs.zone.Zone.pass.Goals as goal
+
+pub invariant_of-self : goal.invariant_of-self
+invariant_of-self c =
+    let e = rw c.as_mut_slice.ensures.value at c.grow_each.ensures in
+    let w = written c.self.inside.trains.len c.grow_each.new.trains c.self.inside.trains.items (c.grow_each.auto.trains ∙ c.as_mut_slice.ensures.len) in
+    (c.self.invariant.0, (c.self.invariant.1.0, rw (w, e) (kept_grown c.args.time c.self.inside.trains.items c.self.inside.holds.items c.self.inside.fresh c.self.invariant.1.1)))
 
 pub returns-then-self-time-clause-fits : goal.returns-then-self-time-clause-fits
 returns-then-self-time-clause-fits c = λ line f.

@@ -1,7 +1,25 @@
 use Rattle.std.proofs.Common.{◌≡◌, true, is_ok, rules, sym, refl}
 use Rattle.zone_state.proofs.Placed.{placed_is, fit_placed}
 use Rattle.zone_state.proofs.Holds.{holds_insert}
+use Rattle.zone_state.proofs.Kept.{kept_put}
 use Rattle.zone_state.proofs.zone.Zone.put.Goals as goal
+
+pub invariant_of-self : goal.invariant_of-self
+invariant_of-self c =
+    let few = rw (sym c.self.view_is) at c.requires.few in
+    let room = c.self.invariant.0 in
+    let room2 = c.self.invariant.1.0 in
+    let long = c.self.invariant.1.1.beside in
+    let q = c.insert.ensures.succeeds in
+    let q2 = c.insert-2.ensures.succeeds in
+    let s : is_ok c.insert.result ≡ true = search rules in
+    let s2 : is_ok c.insert-2.result ≡ true = search rules in
+    let e = rw s at c.insert.ensures.items in
+    let e2 = rw s2 at c.insert-2.ensures.items in
+    let within = rw (sym c.self.view_is) at c.place_for-index.ensures.within in
+    let below = rw (sym c.self.view_is) at c.place_for-index.ensures.below in
+    let rest = rw (sym c.self.view_is) at c.place_for-index.ensures.rest in
+    (search rules, (search rules, rw (e, e2) (kept_put c.self.inside.trains.items c.self.inside.holds.items c.self.inside.fresh c.place_for-index.result c.args.x c.args.hold c.self.invariant.1.1 c.requires.fresh within below rest)))
 
 pub returns-clause-next : goal.returns-clause-next
 returns-clause-next c =
@@ -9,8 +27,11 @@ returns-clause-next c =
     let room = c.self.invariant.0 in
     let q = c.insert.ensures.succeeds in
     let s : is_ok c.insert.result ≡ true = search rules in
-    let e = rw (s, c.place_for-index.ensures.place, c.as_slice.ensures.value) at c.insert.ensures.items in
-    rw (← c.self.view_is, e, placed_is c.args.x c.self.inside.trains.items) refl
+    let e = rw s at c.insert.ensures.items in
+    let within = rw (sym c.self.view_is) at c.place_for-index.ensures.within in
+    let below = rw (sym c.self.view_is) at c.place_for-index.ensures.below in
+    let rest = rw (sym c.self.view_is) at c.place_for-index.ensures.rest in
+    rw (← c.self.view_is, e, placed_is c.args.x c.self.inside.trains.items c.place_for-index.result within below rest) refl
 
 pub returns-clause-fits : goal.returns-clause-fits
 returns-clause-fits c = λ line fit hold f.
@@ -20,7 +41,7 @@ returns-clause-fits c = λ line fit hold f.
     let few = rw (sym c.self.view_is) at c.requires.few in
     let room = c.self.invariant.0 in
     let room2 = c.self.invariant.1.0 in
-    let long = c.self.invariant.1.1 in
+    let long = c.self.invariant.1.1.beside in
     let q = c.insert.ensures.succeeds in
     let q2 = c.insert-2.ensures.succeeds in
     let s : is_ok c.insert.result ≡ true = search rules in

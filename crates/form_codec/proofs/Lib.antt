@@ -1,0 +1,17 @@
+pub mod Stuck_laws
+pub mod Digits
+pub mod Word_laws
+pub mod One_part
+pub mod Marks
+pub mod Word_sets
+pub mod Fields
+pub mod Groups
+pub mod Tables
+pub mod Columns
+pub mod Short_texts
+pub mod Number_fits
+pub mod Putting
+pub mod Rows
+pub mod Finding
+pub mod Coded
+pub mod Texts

@@ -1,0 +1,4 @@
+pub mod Finding
+pub mod Sees
+pub mod Stuck
+pub mod Writing

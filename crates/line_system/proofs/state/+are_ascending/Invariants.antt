@@ -1,5 +1,0 @@
-use Rattle.std.proofs.Common.{length}
-use Rattle.line_system.proofs.state.+are_ascending.Given as goal
-
-abbrev pub decreases-are_ascending : goal.decreases-are_ascending
-decreases-are_ascending l = length l.moves.now

@@ -1,5 +1,0 @@
-use Rattle.std.proofs.Common.{length}
-use Rattle.world_sim.proofs.trains.+can_move.Given as goal
-
-abbrev pub decreases-can_move : goal.decreases-can_move
-decreases-can_move l = length l.moves.now

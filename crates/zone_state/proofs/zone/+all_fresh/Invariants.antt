@@ -1,5 +1,0 @@
-use Rattle.std.proofs.Common.{length}
-use Rattle.zone_state.proofs.zone.+all_fresh.Given as goal
-
-abbrev pub decreases-all_fresh : goal.decreases-all_fresh
-decreases-all_fresh l = length l.trains.now
