@@ -8,9 +8,9 @@ use Rattle.std.proofs.lemmas.Bool.{and_parts, and_from}
 use Rattle.list_laws.proofs.Tests.{by_test}
 use Rattle.definitions.specs.declared.event.Event.{Event}
 use Rattle.definitions.specs.declared.event.Event.TheVariants.{Step, Deliver}
-use Rattle.definitions.specs.declared.document.TextLine.TheVariants as says
+use Rattle.definitions.specs.declared.document.EventLine.TheVariants as tells
 use Rattle.definitions.specs.Lines.{text_of}
-use Rattle.definitions.specs.Grammar.{word_at, field_at, ranged_at, zone_line, segment_line, joint_line, portal_line, buffer_line, silent_line, script_line, train_line, entry_line, enter_line, ask_line, step_line, report_line, time_line, take_line, deliver_line, item_form, event_form, form_of, line_of, is_passed}
+use Rattle.definitions.specs.Grammar.{word_at, field_at, ranged_at, train_line, entry_line, enter_line, ask_line, step_line, report_line, time_line, take_line, deliver_line, event_form, event_line_of, is_passed}
 use Rattle.definitions.specs.Track.{Line}
 use Rattle.definitions.specs.Story.{Story}
 use Rattle.definitions.specs.World.{elapsed, clock}
@@ -48,27 +48,19 @@ ask_found text h (Some rest) e = let empty = word_all (codes "ask") text (omega 
 ask_none : (text : List ℕ) → length text < 4 → ask_line text ≡ None
 ask_none text h = ask_found text h (word_at (codes "ask") text) refl
 
-short_item : (text : List ℕ) → length text < 4 → item_form text ≡ None
-unfolding item_form zone_line segment_line joint_line portal_line buffer_line silent_line script_line
-short_item text h = rw (word_none (codes "zone") text (omega arith), word_none (codes "segment") text (omega arith), word_none (codes "joint") text (omega arith), word_none (codes "portal") text (omega arith), word_none (codes "buffer") text (omega arith), word_none (codes "silent") text (omega arith), word_none (codes "script") text (omega arith)) refl
-
 short_event : (text : List ℕ) → length text < 4 → event_form text ≡ None
 unfolding event_form train_line entry_line enter_line step_line report_line time_line take_line deliver_line
 short_event text h = rw (ask_none text h, word_none (codes "train") text (omega arith), word_none (codes "entry") text (omega arith), word_none (codes "enter") text (omega arith), word_none (codes "step") text (omega arith), word_none (codes "report") text (omega arith), word_none (codes "time") text (omega arith), word_none (codes "take") text (omega arith), word_none (codes "deliver") text (omega arith)) refl
 
-short_form : (text : List ℕ) → length text < 4 → form_of text ≡ says.Strange
-unfolding form_of
-short_form text h = rw (short_item text h, short_event text h) refl
-
 -- a text line that says an event has at least 4 bytes
-pub event_long : (text : List ℕ) (e : Event) → line_of text ≡ says.Event e → 4 ≤ length text
-unfolding line_of
+pub event_long : (text : List ℕ) (e : Event) → event_line_of text ≡ tells.Event e → 4 ≤ length text
+unfolding event_line_of
 event_long text e h = by_test (nat_lt (length text) 4)
-    (λ y. absurd (let f = short_form text (grind (arith, nat_tests)) in by_test (is_passed text)
-    (λ p. let c : says.Passed ≡ says.Event e = rw p at h in cc)
+    (λ y. absurd (let f = short_event text (grind (arith, nat_tests)) in by_test (is_passed text)
+    (λ p. let c : tells.Passed ≡ tells.Event e = rw p at h in cc)
     (λ p. by_test (nat_lt 4096 (length text))
-    (λ q. let c : says.Strange ≡ says.Event e = rw (p, q) at h in cc)
-    (λ q. let c : says.Strange ≡ says.Event e = rw (p, q, f) at h in cc))))
+    (λ q. let c : tells.Strange ≡ tells.Event e = rw (p, q) at h in cc)
+    (λ q. let c : tells.Strange ≡ tells.Event e = rw (p, q, f) at h in cc))))
     (λ n. grind (arith, nat_tests))
 
 pub text_short : (line : List ℕ) → length (text_of line) ≤ length line

@@ -8,10 +8,12 @@ use Rattle.list_laws.proofs.Tests.{by_test}
 use Rattle.definitions.specs.declared.item.Item.{Item}
 use Rattle.definitions.specs.declared.item.Item.TheVariants.{Zone, Segment, Joint, Portal, Buffer, Silent}
 use Rattle.definitions.specs.declared.event.Event.{Event}
-use Rattle.definitions.specs.declared.document.TextLine.{TextLine}
-use Rattle.definitions.specs.declared.document.TextLine.TheVariants as says
+use Rattle.definitions.specs.declared.document.ItemLine.{ItemLine}
+use Rattle.definitions.specs.declared.document.ItemLine.TheVariants as says
+use Rattle.definitions.specs.declared.document.EventLine.{EventLine}
+use Rattle.definitions.specs.declared.document.EventLine.TheVariants as tells
 use Rattle.definitions.specs.Lines.{text_lines, text_of}
-use Rattle.definitions.specs.Grammar.{line_of}
+use Rattle.definitions.specs.Grammar.{item_line_of, event_line_of}
 use Rattle.definitions.specs.Track.{Line}
 use Rattle.definitions.specs.Rules.{rule_of, finish_rule, is_any_zone, builds, is_line}
 use Rattle.definitions.specs.Story.{Story}
@@ -20,7 +22,7 @@ use Rattle.definitions.specs.World.{clock}
 use Rattle.definitions.specs.Control.{last_issued}
 use Rattle.definitions.specs.Steps.{story_of}
 use Rattle.definitions.specs.Safe.{Kept, IsLineOfOneZone}
-use Rattle.definitions.specs.Trace.{Stage, Items, Script, Over, Reading, start, is_over, input_limit, text_read, line_read, stage_read, second_zone, item_read, script_read, stands_for, event_read}
+use Rattle.definitions.specs.Trace.{Stage, Items, Script, Over, Reading, start, is_over, input_limit, text_read, line_read, among_items, in_script, stage_read, second_zone, item_read, script_read, stands_for, event_read}
 use Rattle.document_laws.specs.Throughout.{stands, SafeHistory, SafeAt, SafeThroughout}
 use Rattle.document_laws.proofs.Few_numbers.{last_before}
 use Rattle.document_laws.proofs.Bounds.{clock_small, numbers_small}
@@ -92,19 +94,24 @@ good_event n line events count s e is g = by_test (built line s e)
     (λ q. rw (b, m, q) tt)))
     (λ x. rw x tt)
 
-good_stage : (n : ℕ) (s : Stage) (t : TextLine) → Good s → Good (stage_read n s t).stage
+good_items : (n : ℕ) (items : List Item) (t : ItemLine) → Good (Items items) → Good (among_items n items t).stage
+good_items n items says.Passed g = g
+good_items n items (says.Item i) g = good_item n items i g
+good_items n items says.Unbuilt g = tt
+good_items n items says.Script g = good_script n items g
+good_items n items says.Plan g = tt
+good_items n items (says.Fault column) g = tt
+
+good_events : (n : ℕ) (line : Line) (events : List Event) (count : ℕ) (t : EventLine) → Good (Script line events count) → Good (in_script n line events count t).stage
+good_events n line events count tells.Passed g = g
+good_events n line events count (tells.Event e) g = good_event n line events count (story_of line events) e refl g
+good_events n line events count tells.Strange g = tt
+
+good_stage : (n : ℕ) (s : Stage) (text : List ℕ) → Good s → Good (stage_read n s text).stage
 unfolding stage_read
-good_stage n (Over ending) t g = tt
-good_stage n (Items items) says.Passed g = g
-good_stage n (Items items) (says.Item i) g = good_item n items i g
-good_stage n (Items items) says.Script g = good_script n items g
-good_stage n (Items items) (says.Event e) g = tt
-good_stage n (Items items) says.Strange g = tt
-good_stage n (Script line events count) says.Passed g = g
-good_stage n (Script line events count) (says.Item i) g = tt
-good_stage n (Script line events count) says.Script g = tt
-good_stage n (Script line events count) (says.Event e) g = good_event n line events count (story_of line events) e refl g
-good_stage n (Script line events count) says.Strange g = tt
+good_stage n (Items items) text g = good_items n items (item_line_of text) g
+good_stage n (Script line events count) text g = good_events n line events count (event_line_of text) g
+good_stage n (Over ending) text g = tt
 
 good_line : (r : Reading) (line : List ℕ) → Good r.stage → Good (line_read r line).next.stage
 unfolding text_read
@@ -112,7 +119,7 @@ good_line r line g = by_test (is_over r.stage)
     (λ y. rw y g)
     (λ x. by_test (nat_lt input_limit (r.bytes + length line))
     (λ y. rw (x, y) tt)
-    (λ z. rw (x, z) (good_stage (r.number + 1) r.stage (line_of (text_of line)) g)))
+    (λ z. rw (x, z) (good_stage (r.number + 1) r.stage (text_of line) g)))
 
 pub good_stands : (lines : List (List ℕ)) (r : Reading) → Good r.stage → Good (stands r lines).stage
 unfolding stands

@@ -1,5 +1,5 @@
 -- A document of items, with or without the word and events, gives its story.
-use Rattle.std.proofs.Common.{◌≡◌, ℕ, ◌+◌, List, [], ◌∷◌, ◌++◌, length, reverse, false, refl, sym, ◌∙◌, ap, append_assoc, append-nil, arith}
+use Rattle.std.proofs.Common.{◌≡◌, ℕ, List, [], ◌∷◌, ◌++◌, length, reverse, false, refl, sym, ◌∙◌, ap, append_assoc, append-nil, arith}
 use Rattle.std.proofs.lemmas.List.{reverse-append}
 use Rattle.std.proofs.lemmas.Grind.{flat_map-append}
 use Rattle.std.specs.Prelude.{flat_map}
@@ -57,7 +57,7 @@ unfolding trace story_of
 document_gives bytes items events d =
     let lines = text_lines bytes in
     ends_behind lines (Script items (behind_events items [] events) (length events)) (lines_behind items [] events) (ends.Done (length events))
-    (script_leads_up lines start [] items events refl d.says_ d.builds d.one d.finished d.kept (omega (arith, bytes_same bytes, d.within)))
+    (script_leads_up lines items events d.says_ d.builds d.one d.finished d.kept (omega (arith, bytes_same bytes, d.within)))
     (script_ends (length lines) items (behind_events items [] events) (length events))
     ∙ ap (λ (t : List ℕ). behind t (ended (ends.Done (length events)))) (sym (story_more items events []))
 

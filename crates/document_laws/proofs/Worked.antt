@@ -8,7 +8,11 @@ use Rattle.definitions.specs.declared.event.Event.TheVariants.{Train, Time, Take
 use Rattle.definitions.specs.declared.event.Kind.TheVariants.{Equipped}
 use Rattle.definitions.specs.declared.document.Ending.TheVariants as ends
 use Rattle.definitions.specs.Lines.{text_lines, text_of}
-use Rattle.definitions.specs.Grammar.{line_of, form_of, item_form, event_form, zone_line, segment_line, joint_line, portal_line, buffer_line, silent_line, script_line, train_line, entry_line, enter_line, ask_line, step_line, report_line, time_line, take_line, deliver_line, word_at, number_at, digits_at, field_at, ranged_at}
+use Rattle.definitions.specs.Grammar.{item_line_of, event_line_of, event_form, train_line, entry_line, enter_line, ask_line, step_line, report_line, time_line, take_line, deliver_line, word_at, number_at, digits_at, field_at, ranged_at}
+use Rattle.definitions.specs.ItemText.{item_forms}
+use Rattle.definitions.specs.ItemReading.{item_at}
+use Rattle.text_forms.specs.Reading.{after_word, common, byte_at, line_at, fields_in, fields_at, parts_at, part_at, groups_at}
+use Rattle.text_forms.specs.Reading as forms
 use Rattle.definitions.specs.Numbers.{numbers_below, least}
 use Rattle.definitions.specs.Rules.{rule_of, finish_rule, builds}
 use Rattle.definitions.specs.Story.{first_told, sent, to_actor, ever}
@@ -16,10 +20,10 @@ use Rattle.definitions.specs.World.{trains}
 use Rattle.definitions.specs.Control.{controls, greatest_known}
 use Rattle.definitions.specs.Steps.{story_of, taken_most, takes_from}
 use Rattle.definitions.specs.Trace.{trace, went}
-use Rattle.document_laws.specs.Whole.{said, behind_events, Admitted, IsDocument, IsDocumentWithoutScript, story_text, whole}
-use Rattle.document_laws.specs.Refused.{IsRefusedInScript, story_ended}
+use Rattle.document_laws.specs.Whole.{said_items, said_events, SayEvents, SayScript, behind_events, Admitted, IsDocument, IsDocumentWithoutScript, story_text, whole}
+use Rattle.document_laws.specs.Refused.{IsRefusedInScript, IsRefusedAmongItems, story_ended}
 use Rattle.document_laws.proofs.Whole.{document_gives, document_gives_nothing}
-use Rattle.document_laws.proofs.Refused.{refused_in_script}
+use Rattle.document_laws.proofs.Refused.{refused_in_script, refused_among_items}
 
 abbrev items : List Item
 items = Zone 1 ∷ []
@@ -34,12 +38,25 @@ abbrev scripted : List ℕ
 scripted = codes "zone 1\n\nscript\ntrain 7 60 2 20 eq\n"
 
 is_alone : IsDocumentWithoutScript alone items
-unfolding said text_lines text_of line_of form_of item_form zone_line word_at number_at digits_at field_at rule_of finish_rule least builds
+unfolding said_items text_lines text_of item_line_of item_forms item_at line_at forms.word_at after_word common fields_in fields_at parts_at part_at byte_at forms.number_at forms.digits_at groups_at rule_of finish_rule least builds
 is_alone = record { says_ = refl; builds = refl; one = omega arith; finished = refl; within = omega arith }
 
+-- the zone, the word, and events
+say_script : (back : List (List ℕ)) (script : List Event) → SayEvents back script → SayScript (codes "zone 1\n" ∷ codes "\n" ∷ codes "script\n" ∷ back) items script
+unfolding said_items text_of item_line_of item_forms item_at line_at forms.word_at after_word common fields_in fields_at parts_at part_at byte_at forms.number_at forms.digits_at groups_at
+say_script back script say = record {
+  front = codes "zone 1\n" ∷ codes "\n" ∷ [];
+  word = codes "script\n";
+  back = back;
+  parts = refl;
+  items_said = refl;
+  word_said = refl;
+  events_said = say;
+}
+
 is_scripted : IsDocument scripted items events
-unfolding said text_lines text_of line_of form_of item_form event_form zone_line segment_line joint_line portal_line buffer_line silent_line script_line train_line word_at number_at digits_at field_at ranged_at rule_of finish_rule least builds Admitted story_of first_told trains
-is_scripted = record { says_ = refl; builds = refl; one = omega arith; finished = refl; kept = (refl, tt); within = omega arith }
+unfolding said_events text_lines text_of event_line_of event_form train_line word_at number_at digits_at field_at ranged_at rule_of finish_rule least builds Admitted story_of first_told trains
+is_scripted = record { says_ = say_script (codes "train 7 60 2 20 eq\n" ∷ []) events refl; builds = refl; one = omega arith; finished = refl; kept = (refl, tt); within = omega arith }
 
 alone_gives : trace alone ≡ whole items []
 alone_gives = document_gives_nothing alone items is_alone
@@ -52,7 +69,7 @@ abbrev further : List Event
 further = Train (record { 0 = 7 }) 60 2 20 Equipped ∷ Time (record { 0 = 1 }) (record { 0 = 7 }) ∷ Deliver 1 ∷ []
 
 abbrev delivered : List ℕ
-delivered = codes "zone 1\nscript\ntrain 7 60 2 20 eq\ntime 1 7\ndeliver 1\n"
+delivered = codes "zone 1\n\nscript\ntrain 7 60 2 20 eq\ntime 1 7\ndeliver 1\n"
 
 -- in the history it is its take
 is_take : behind_events items [] further ≡ Take 1 0 1 ∷ Time (record { 0 = 1 }) (record { 0 = 7 }) ∷ Train (record { 0 = 7 }) 60 2 20 Equipped ∷ []
@@ -60,8 +77,15 @@ unfolding behind_events went story_of sent to_actor taken_most takes_from
 is_take = refl
 
 is_delivered : IsDocument delivered items further
-unfolding said text_lines text_of line_of form_of item_form event_form zone_line segment_line joint_line portal_line buffer_line silent_line script_line train_line entry_line enter_line ask_line step_line report_line time_line take_line deliver_line word_at number_at digits_at field_at ranged_at rule_of finish_rule least builds Admitted went story_of first_told trains sent to_actor taken_most takes_from
-is_delivered = record { says_ = refl; builds = refl; one = omega arith; finished = refl; kept = (refl, (refl, (refl, tt))); within = omega arith }
+unfolding said_events text_lines text_of event_line_of event_form train_line entry_line enter_line ask_line step_line report_line time_line take_line deliver_line word_at number_at digits_at field_at ranged_at rule_of finish_rule least builds Admitted went story_of first_told trains sent to_actor taken_most takes_from
+is_delivered = record {
+  says_ = say_script (codes "train 7 60 2 20 eq\n" ∷ codes "time 1 7\n" ∷ codes "deliver 1\n" ∷ []) further refl;
+  builds = refl;
+  one = omega arith;
+  finished = refl;
+  kept = (refl, (refl, (refl, tt)));
+  within = omega arith;
+}
 
 delivered_gives : trace delivered ≡ whole items further
 delivered_gives = document_gives delivered items further is_delivered
@@ -76,16 +100,16 @@ three_events = refl
 
 -- a train that comes on and holds no authority is refused; what follows is not read
 abbrev broken : List ℕ
-broken = codes "zone 1\nscript\ntrain 7 60 2 20 eq\nenter 7\nzone 1\n"
+broken = codes "zone 1\n\nscript\ntrain 7 60 2 20 eq\nenter 7\nzone 1\n"
 
-is_broken : IsRefusedInScript broken items events (ends.Premise 4 5)
-unfolding said text_lines text_of line_of form_of item_form event_form zone_line segment_line joint_line portal_line buffer_line silent_line script_line train_line entry_line enter_line word_at number_at digits_at field_at ranged_at rule_of finish_rule least builds Admitted behind_events went story_of first_told trains ever
+is_broken : IsRefusedInScript broken items events (ends.Premise 5 5)
+unfolding said_events text_lines text_of event_line_of event_form train_line entry_line enter_line word_at number_at digits_at field_at ranged_at rule_of finish_rule least builds Admitted behind_events went story_of first_told trains ever
 is_broken = record {
-  before = codes "zone 1\n" ∷ codes "script\n" ∷ codes "train 7 60 2 20 eq\n" ∷ [];
+  before = codes "zone 1\n" ∷ codes "\n" ∷ codes "script\n" ∷ codes "train 7 60 2 20 eq\n" ∷ [];
   last = codes "enter 7\n";
   behind = codes "zone 1\n" ∷ [];
   lines = refl;
-  says_ = refl;
+  says_ = say_script (codes "train 7 60 2 20 eq\n" ∷ []) events refl;
   builds = refl;
   one = omega arith;
   finished = refl;
@@ -94,5 +118,31 @@ is_broken = record {
   within = omega arith;
 }
 
-broken_gives : trace broken ≡ story_ended items events (ends.Premise 4 5)
-broken_gives = refused_in_script broken items events (ends.Premise 4 5) is_broken
+broken_gives : trace broken ≡ story_ended items events (ends.Premise 5 5)
+broken_gives = refused_in_script broken items events (ends.Premise 5 5) is_broken
+
+-- a text line that is no item is refused at its column; what stands after it is not read
+abbrev misspelled : List ℕ
+misspelled = codes "zone 1\nscrip\nscript\n"
+
+is_misspelled : IsRefusedAmongItems misspelled items (ends.LineColumn 2 2)
+unfolding said_items text_lines text_of item_line_of item_forms item_at line_at forms.word_at after_word common fields_in fields_at parts_at part_at byte_at forms.number_at forms.digits_at groups_at rule_of least builds
+is_misspelled = record {
+  before = codes "zone 1\n" ∷ [];
+  last = codes "scrip\n";
+  behind = codes "script\n" ∷ [];
+  lines = refl;
+  says_ = refl;
+  builds = refl;
+  one = omega arith;
+  refused = refl;
+  within = omega arith;
+}
+
+misspelled_gives : trace misspelled ≡ story_ended items [] (ends.LineColumn 2 2)
+misspelled_gives = refused_among_items misspelled items (ends.LineColumn 2 2) is_misspelled
+
+-- the word of a plan is refused before the line is finished
+is_planned : IsRefusedAmongItems (codes "plan\n") [] (ends.ScriptColumn 1 1)
+unfolding said_items text_lines text_of item_line_of item_forms item_at line_at forms.word_at after_word common fields_in fields_at parts_at part_at byte_at forms.number_at forms.digits_at groups_at builds
+is_planned = record { before = []; last = codes "plan\n"; behind = []; lines = refl; says_ = refl; builds = refl; one = omega arith; refused = refl; within = omega arith }

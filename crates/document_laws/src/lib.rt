@@ -9,7 +9,6 @@ ghost use Rattle.document_laws.specs.Whole.{IsDocument, IsDocumentWithoutScript,
 
 /// A document of items, the word and events gives the outcome lines of its history, in which a delivery is its takes, and
 /// how many events it says.
-#[tactic(auto, using(crate::proofs::Whole::document_gives))]
 pub fn document_gives()
     ensures { (bytes : List ℕ) (items : List Item) (events : List Event) → IsDocument bytes items events → trace bytes ≡ whole items events }
 {}
@@ -22,7 +21,6 @@ pub fn document_gives_nothing()
 
 /// No text line of a document is refused: it breaks no rule and no premise, its form is built, and it declares no train
 /// too many.
-#[tactic(auto, using(crate::proofs::Whole::never_premise))]
 pub fn never_premise()
     ensures { (bytes : List ℕ) (items : List Item) (events : List Event) → IsDocument bytes items events → refuses (trace bytes).ending ≡ false }
 {}

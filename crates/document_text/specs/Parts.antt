@@ -3,11 +3,12 @@ use Rattle.std.specs.Prelude.{ℕ, List, [], ◌∷◌, ◌++◌, codes}
 use Rattle.std.specs.Fmt.{decimal}
 use Rattle.definitions.specs.Endings.{field, step_field}
 use Rattle.document_text.specs.declared.write.Part.{Part}
-use Rattle.document_text.specs.declared.write.Part.TheVariants.{Number, Step, Rule, Premise, Held}
+use Rattle.document_text.specs.declared.write.Part.TheVariants.{Number, Step, Column, Rule, Premise, Held}
 
 abbrev pub part_text : Part → List ℕ
 part_text (Number n) = field n
 part_text (Step st) = step_field st
+part_text (Column c) = codes " column" ++ field c
 part_text (Rule r) = codes " rule" ++ field r
 part_text (Premise p) = codes " P" ++ decimal p
 part_text (Held t) = codes " held" ++ field t

@@ -1,4 +1,4 @@
-//! The text of documents: what a text line says, and how outcomes and last lines are written.
+//! The text of documents: what a text line of the script says, and how outcomes and last lines are written.
 #![tactic(auto)]
 
 pub mod read;

@@ -1,13 +1,13 @@
-//! What a text line says.
+//! What a text line of the script says.
 ghost use Rattle.std.specs.Prelude.{◌≡◌, ◌+◌, ◌-◌, ◌<◌, ◌≤◌, ◌^◌, IfSome};
 ghost use Rattle.arrayvec.specs.ArrayVec.{array_vec_len};
-ghost use Rattle.definitions.specs.Grammar.{number_at, digits_at, word_at, field_at, sign_at, end_at, ranged_at, step_in, step_at, is_sign, asked_at, zone_line, segment_line, joint_line, portal_line, buffer_line, silent_line, script_line, train_line, entry_line, enter_line, ask_line, moves_at, step_line, signed_at, report_line, time_line, deliver_line, take_line, item_form, event_form, form_of, line_of};
-ghost use Rattle.document_text.specs.Sees.{Sees, PutBehind, begins};
+ghost use Rattle.definitions.specs.Grammar.{number_at, digits_at, word_at, field_at, sign_at, end_at, ranged_at, step_in, step_at, is_sign, asked_at, train_line, entry_line, enter_line, ask_line, moves_at, step_line, signed_at, report_line, time_line, deliver_line, take_line, event_form, or_next, event_line_of};
+ghost use Rattle.document_text.specs.Sees.{Sees, PutBehind, PutEvent, begins};
 
 use arrayvec::ArrayVec;
-use definitions::document::TextLine;
+use definitions::document::EventLine;
 use definitions::event::{Event, Kind};
-use definitions::item::{End, Item};
+use definitions::item::End;
 use track_points::{Dir, DirSeg, SegId, TrainId, ZoneId};
 
 /// Further digits of a number, at most `more`.
@@ -141,92 +141,23 @@ fn step(bytes: &[u8]) -> Option<(DirSeg, &[u8])>
     step_of(end, rest)
 }
 
-/// What is said, where nothing follows.
-fn whole(says: TextLine, rest: &[u8]) -> Option<TextLine>
-    ensures { result ≡ Rattle.definitions.specs.Grammar.whole says rest.now }
+/// Puts an event in its place, where nothing follows.
+fn whole(says: &mut EventLine, event: Event, rest: &[u8]) -> Option<()>
+    ensures { PutEvent result says.new (Rattle.definitions.specs.Grammar.whole event rest.now) }
 {
     match rest {
-        [] => Some(says),
+        [] => {
+            *says = EventLine::Event(event);
+            Some(())
+        }
         [_, ..] => None,
     }
 }
 
-/// A zone.
-#[tactic(auto, unfolding(definitions::specs::Grammar::zone_line))]
-fn zone(text: &[u8]) -> Option<TextLine>
-    ensures { result ≡ zone_line text.now }
-{
-    let rest = word(b"zone", text)?;
-    let (z, rest) = field(rest)?;
-    whole(TextLine::Item(Item::Zone(z)), rest)
-}
-
-/// A segment.
-#[tactic(auto, unfolding(definitions::specs::Grammar::segment_line))]
-fn segment(text: &[u8]) -> Option<TextLine>
-    ensures { result ≡ segment_line text.now }
-{
-    let rest = word(b"segment", text)?;
-    let (s, rest) = field(rest)?;
-    let (z, rest) = field(rest)?;
-    let (length, rest) = field(rest)?;
-    whole(TextLine::Item(Item::Segment(s, z, length)), rest)
-}
-
-/// Two ends that meet.
-#[tactic(auto, unfolding(definitions::specs::Grammar::joint_line))]
-fn joint(text: &[u8]) -> Option<TextLine>
-    ensures { result ≡ joint_line text.now }
-{
-    let rest = word(b"joint", text)?;
-    let (a, rest) = end(rest)?;
-    let (b, rest) = end(rest)?;
-    whole(TextLine::Item(Item::Joint(a, b)), rest)
-}
-
-/// An end where trains come on and leave.
-#[tactic(auto, unfolding(definitions::specs::Grammar::portal_line))]
-fn portal(text: &[u8]) -> Option<TextLine>
-    ensures { result ≡ portal_line text.now }
-{
-    let rest = word(b"portal", text)?;
-    let (a, rest) = end(rest)?;
-    whole(TextLine::Item(Item::Portal(a)), rest)
-}
-
-/// An end where the track ends.
-#[tactic(auto, unfolding(definitions::specs::Grammar::buffer_line))]
-fn buffer(text: &[u8]) -> Option<TextLine>
-    ensures { result ≡ buffer_line text.now }
-{
-    let rest = word(b"buffer", text)?;
-    let (a, rest) = end(rest)?;
-    whole(TextLine::Item(Item::Buffer(a)), rest)
-}
-
-/// How many ms without a used report make a train silent.
-#[tactic(auto, unfolding(definitions::specs::Grammar::silent_line))]
-fn silent(text: &[u8]) -> Option<TextLine>
-    ensures { result ≡ silent_line text.now }
-{
-    let rest = word(b"silent", text)?;
-    let (ms, rest) = field(rest)?;
-    whole(TextLine::Item(Item::Silent(ms)), rest)
-}
-
-/// The line between the items and the events.
-#[tactic(auto, unfolding(definitions::specs::Grammar::script_line))]
-fn script(text: &[u8]) -> Option<TextLine>
-    ensures { result ≡ script_line text.now }
-{
-    let rest = word(b"script", text)?;
-    whole(TextLine::Script, rest)
-}
-
 /// A train is declared.
 #[tactic(auto, unfolding(definitions::specs::Grammar::train_line))]
-fn train(text: &[u8]) -> Option<TextLine>
-    ensures { result ≡ train_line text.now }
+fn train(text: &[u8], says: &mut EventLine) -> Option<()>
+    ensures { PutEvent result says.new (train_line text.now) }
 {
     let rest = word(b"train", text)?;
     let (t, rest) = ranged(1, 65535, rest)?;
@@ -242,7 +173,7 @@ fn train(text: &[u8]) -> Option<TextLine>
             speed as u32,
             Kind::Equipped,
         );
-        whole(TextLine::Event(event), rest)
+        whole(says, event, rest)
     } else {
         None
     }
@@ -250,23 +181,23 @@ fn train(text: &[u8]) -> Option<TextLine>
 
 /// A train asks for entry.
 #[tactic(auto, unfolding(definitions::specs::Grammar::entry_line))]
-fn entry(text: &[u8]) -> Option<TextLine>
-    ensures { result ≡ entry_line text.now }
+fn entry(text: &[u8], says: &mut EventLine) -> Option<()>
+    ensures { PutEvent result says.new (entry_line text.now) }
 {
     let rest = word(b"entry", text)?;
     let (t, rest) = ranged(1, 65535, rest)?;
     let (st, rest) = step(rest)?;
-    whole(TextLine::Event(Event::Entry(TrainId(t as u16), st)), rest)
+    whole(says, Event::Entry(TrainId(t as u16), st), rest)
 }
 
 /// A train comes on.
 #[tactic(auto, unfolding(definitions::specs::Grammar::enter_line))]
-fn enter(text: &[u8]) -> Option<TextLine>
-    ensures { result ≡ enter_line text.now }
+fn enter(text: &[u8], says: &mut EventLine) -> Option<()>
+    ensures { PutEvent result says.new (enter_line text.now) }
 {
     let rest = word(b"enter", text)?;
     let (t, rest) = ranged(1, 65535, rest)?;
-    whole(TextLine::Event(Event::Enter(TrainId(t as u16))), rest)
+    whole(says, Event::Enter(TrainId(t as u16)), rest)
 }
 
 /// Whether a sign comes next.
@@ -320,15 +251,16 @@ fn asked(
 
 /// A train asks for further steps.
 #[tactic(auto, unfolding(definitions::specs::Grammar::ask_line))]
-fn ask(text: &[u8]) -> Option<TextLine>
-    ensures { result ≡ ask_line text.now }
+fn ask(text: &[u8], says: &mut EventLine) -> Option<()>
+    ensures { PutEvent result says.new (ask_line text.now) }
 {
     let rest = word(b"ask", text)?;
     let (t, rest) = ranged(1, 65535, rest)?;
     let (z, rest) = ranged(1, 16, rest)?;
     let ((steps, to), rest) = asked(ArrayVec::new(), 24, rest)?;
     whole(
-        TextLine::Event(Event::Ask(TrainId(t as u16), ZoneId(z as u8), steps, to)),
+        says,
+        Event::Ask(TrainId(t as u16), ZoneId(z as u8), steps, to),
         rest,
     )
 }
@@ -358,14 +290,15 @@ fn moves(moved: &mut ArrayVec<(TrainId, u32), 256>, more: u64, bytes: &[u8]) -> 
 
 /// Time passes, and trains move.
 #[tactic(auto, unfolding(definitions::specs::Grammar::step_line))]
-fn time_step(text: &[u8]) -> Option<TextLine>
-    ensures { result ≡ step_line text.now }
+fn time_step(text: &[u8], says: &mut EventLine) -> Option<()>
+    ensures { PutEvent result says.new (step_line text.now) }
 {
     let rest = word(b"step", text)?;
     let (ms, rest) = ranged(1, 60_000, rest)?;
     let mut moved = ArrayVec::new();
     if moves(&mut moved, 256, rest) {
-        Some(TextLine::Event(Event::Step(ms as u32, moved)))
+        *says = EventLine::Event(Event::Step(ms as u32, moved));
+        Some(())
     } else {
         None
     }
@@ -399,8 +332,8 @@ fn offset(bytes: &[u8]) -> Option<(i32, &[u8])>
 
 /// A train reports where its head is.
 #[tactic(auto, unfolding(definitions::specs::Grammar::report_line))]
-fn report(text: &[u8]) -> Option<TextLine>
-    ensures { result ≡ report_line text.now }
+fn report(text: &[u8], says: &mut EventLine) -> Option<()>
+    ensures { PutEvent result says.new (report_line text.now) }
 {
     let rest = word(b"report", text)?;
     let (t, rest) = ranged(1, 65535, rest)?;
@@ -409,87 +342,40 @@ fn report(text: &[u8]) -> Option<TextLine>
     let (off, rest) = offset(rest)?;
     let (flag, rest) = ranged(0, 1, rest)?;
     let event = Event::Report(TrainId(t as u16), ZoneId(z as u8), st, off, flag == 1);
-    whole(TextLine::Event(event), rest)
+    whole(says, event, rest)
 }
 
 /// The world tells the time.
 #[tactic(auto, unfolding(definitions::specs::Grammar::time_line))]
-fn time(text: &[u8]) -> Option<TextLine>
-    ensures { result ≡ time_line text.now }
+fn time(text: &[u8], says: &mut EventLine) -> Option<()>
+    ensures { PutEvent result says.new (time_line text.now) }
 {
     let rest = word(b"time", text)?;
     let (z, rest) = ranged(1, 16, rest)?;
     let (t, rest) = ranged(0, 65535, rest)?;
-    whole(
-        TextLine::Event(Event::Time(ZoneId(z as u8), TrainId(t as u16))),
-        rest,
-    )
+    whole(says, Event::Time(ZoneId(z as u8), TrainId(t as u16)), rest)
 }
 
 /// All messages are taken that wait for an actor.
 #[tactic(auto, unfolding(definitions::specs::Grammar::deliver_line))]
-fn deliver(text: &[u8]) -> Option<TextLine>
-    ensures { result ≡ deliver_line text.now }
+fn deliver(text: &[u8], says: &mut EventLine) -> Option<()>
+    ensures { PutEvent result says.new (deliver_line text.now) }
 {
     let rest = word(b"deliver", text)?;
     let (to, rest) = ranged(0, 16, rest)?;
-    whole(TextLine::Event(Event::Deliver(to as u8)), rest)
+    whole(says, Event::Deliver(to as u8), rest)
 }
 
 /// A message is taken.
 #[tactic(auto, unfolding(definitions::specs::Grammar::take_line))]
-fn take(text: &[u8]) -> Option<TextLine>
-    ensures { result ≡ take_line text.now }
+fn take(text: &[u8], says: &mut EventLine) -> Option<()>
+    ensures { PutEvent result says.new (take_line text.now) }
 {
     let rest = word(b"take", text)?;
     let (to, rest) = ranged(0, 16, rest)?;
     let (from, rest) = ranged(0, 16, rest)?;
     let (n, rest) = ranged(1, 4_294_967_295, rest)?;
-    whole(
-        TextLine::Event(Event::Take(to as u8, from as u8, n as u32)),
-        rest,
-    )
-}
-
-/// One of the two, the first one first.
-fn either(a: Option<TextLine>, b: Option<TextLine>) -> Option<TextLine>
-    ensures { result ≡ Rattle.definitions.specs.Grammar.or_next a b }
-{
-    match a {
-        Some(says) => Some(says),
-        None => b,
-    }
-}
-
-/// An item, or the line after the items.
-#[tactic(auto, unfolding(definitions::specs::Grammar::item_form))]
-fn item(text: &[u8]) -> Option<TextLine>
-    ensures { result ≡ item_form text.now }
-{
-    let last = either(silent(text), script(text));
-    let end = either(portal(text), either(buffer(text), last));
-    either(zone(text), either(segment(text), either(joint(text), end)))
-}
-
-/// An event.
-#[tactic(auto, unfolding(definitions::specs::Grammar::event_form))]
-fn event(text: &[u8]) -> Option<TextLine>
-    ensures { result ≡ event_form text.now }
-{
-    let link = either(time(text), either(take(text), deliver(text)));
-    let later = either(time_step(text), either(report(text), link));
-    let asks = either(enter(text), either(ask(text), later));
-    either(train(text), either(entry(text), asks))
-}
-
-/// Puts what was found in its place; else the text line is strange.
-fn put(says: &mut TextLine, found: Option<TextLine>)
-    ensures { says.new ≡ Rattle.definitions.specs.Grammar.strange_else found }
-{
-    match found {
-        Some(found) => *says = found,
-        None => *says = TextLine::Strange,
-    }
+    whole(says, Event::Take(to as u8, from as u8, n as u32), rest)
 }
 
 /// Whether a text begins with these two bytes.
@@ -503,41 +389,52 @@ fn begins(text: &[u8], first: u8, second: u8) -> bool
     }
 }
 
-/// What a text line says that is not passed over. The forms of which documents have many are found by their first bytes, any
-/// other by trying all.
-#[tactic(auto, unfolding(definitions::specs::Grammar::form_of), using(crate::proofs::By_first_bytes::segment_first, crate::proofs::By_first_bytes::joint_first, crate::proofs::By_first_bytes::ask_first, crate::proofs::By_first_bytes::step_first, crate::proofs::By_first_bytes::report_first, crate::proofs::By_first_bytes::take_first))]
-fn form(text: &[u8], says: &mut TextLine)
-    ensures { says.new ≡ form_of text.now }
+/// An event of one of the two forms that begin alike.
+fn entry_or_enter(text: &[u8], says: &mut EventLine) -> Option<()>
+    ensures { PutEvent result says.new (or_next (entry_line text.now) (enter_line text.now)) }
 {
-    if begins(text, b'r', b'e') {
-        put(says, report(text));
-    } else if begins(text, b't', b'a') {
-        put(says, take(text));
-    } else if begins(text, b's', b't') {
-        put(says, time_step(text));
-    } else if begins(text, b'a', b's') {
-        put(says, ask(text));
-    } else if begins(text, b'j', b'o') {
-        put(says, joint(text));
-    } else if begins(text, b's', b'e') {
-        put(says, segment(text));
-    } else {
-        put(says, either(item(text), event(text)));
+    match entry(text, says) {
+        Some(()) => Some(()),
+        None => enter(text, says),
     }
 }
 
-/// What a text line says, put in its place: an event is large.
-#[tactic(auto, unfolding(definitions::specs::Grammar::line_of))]
-pub fn text_line(text: &[u8], says: &mut TextLine)
-    ensures { says.new ≡ line_of text.now }
+/// An event, by the first bytes of its form.
+#[tactic(auto, using(crate::proofs::By_first_bytes::train_first, crate::proofs::By_first_bytes::entry_or_enter_first, crate::proofs::By_first_bytes::ask_first, crate::proofs::By_first_bytes::step_first, crate::proofs::By_first_bytes::report_first, crate::proofs::By_first_bytes::time_first, crate::proofs::By_first_bytes::take_first, crate::proofs::By_first_bytes::deliver_first, crate::proofs::By_first_bytes::none_first))]
+fn event(text: &[u8], says: &mut EventLine) -> Option<()>
+    ensures { PutEvent result says.new (event_form text.now) }
+{
+    if begins(text, b'r', b'e') {
+        report(text, says)
+    } else if begins(text, b't', b'a') {
+        take(text, says)
+    } else if begins(text, b's', b't') {
+        time_step(text, says)
+    } else if begins(text, b'a', b's') {
+        ask(text, says)
+    } else if begins(text, b't', b'i') {
+        time(text, says)
+    } else if begins(text, b'd', b'e') {
+        deliver(text, says)
+    } else if begins(text, b'e', b'n') {
+        entry_or_enter(text, says)
+    } else if begins(text, b't', b'r') {
+        train(text, says)
+    } else {
+        None
+    }
+}
+
+/// What a text line of the script says, without its end of line, put in its place: an event is large.
+#[tactic(auto, unfolding(definitions::specs::Grammar::event_line_of))]
+pub fn event_line(text: &[u8], says: &mut EventLine)
+    ensures { says.new ≡ event_line_of text.now }
 {
     match text {
-        [] | [b'#', ..] => *says = TextLine::Passed,
+        [] | [b'#', ..] => *says = EventLine::Passed,
         _ => {
-            if text.len() > 4096 {
-                *says = TextLine::Strange;
-            } else {
-                form(text, says);
+            if text.len() > 4096 || event(text, says).is_none() {
+                *says = EventLine::Strange;
             }
         }
     }

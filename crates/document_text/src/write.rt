@@ -5,7 +5,7 @@ ghost use Rattle.edge_io.specs.Writing.{Wrote};
 ghost use Rattle.definitions.specs.Endings.{step_field, outcome_text, ending_text};
 ghost use Rattle.document_text.specs.Parts.{part_text, parts_text};
 
-use Part::{Held, Number, Premise, Rule, Step};
+use Part::{Column, Held, Number, Premise, Rule, Step};
 use definitions::document::Ending;
 use definitions::outcome::{AnswerWord, Obstacle, Outcome, Refusal};
 use edge_io::stream::Sink;
@@ -19,6 +19,8 @@ enum Part {
     Number(u64),
     /// A step.
     Step(DirSeg),
+    /// The word `column` and a column.
+    Column(u32),
     /// The word `rule` and a rule.
     Rule(u8),
     /// A premise.
@@ -73,6 +75,7 @@ fn write_part<K: Sink>(part: Part, sink: &mut K) -> Result<(), WriteFault>
     match part {
         Number(n) => write_named(b" ", n, sink),
         Step(step) => write_step(step, sink),
+        Column(column) => write_named(b" column ", column as u64, sink),
         Rule(rule) => write_named(b" rule ", rule as u64, sink),
         Premise(premise) => write_named(b" P", premise as u64, sink),
         Held(train) => write_named(b" held ", train, sink),
@@ -218,7 +221,13 @@ pub fn write_ending<K: Sink>(ending: &Ending, sink: &mut K) -> Result<(), WriteF
     match *ending {
         Ending::Usage => write_text(sink, b"usage: cbtc run, check, race, race trace or big N\n"),
         Ending::Done(n) => write_line(b"done", &[Number(n)], b"\n", sink),
+        Ending::LineColumn(n, column) => {
+            write_line(b"line", &[Number(n), Column(column)], b"\n", sink)
+        }
         Ending::Rule(n, rule) => write_line(b"line", &[Number(n), Rule(rule)], b"\n", sink),
+        Ending::ScriptColumn(n, column) => {
+            write_line(b"script", &[Number(n), Column(column)], b"\n", sink)
+        }
         Ending::Premise(n, premise) => write_line(
             b"premise",
             &[Number(n), Premise(premise)],

@@ -1,7 +1,7 @@
 -- Laws on columns: a text that is refused has one, and is none of the language.
 use Rattle.std.proofs.Common.{◌≡◌, ℕ, ◌+◌, ◌-◌, ◌≤◌, ◌<◌, inl, inr, List, ◌++◌, length, take, drop, Result, Err, sym, ap, subst, ◌∙◌, arith}
 use Rattle.std.proofs.lemmas.Bool.{cases_lt, cases_order}
-use Rattle.std.proofs.lemmas.List.{take-append-drop}
+use Rattle.std.proofs.lemmas.List.{take_all, take-append-drop, take-take, length-take}
 use Rattle.text_forms.specs.Language.{Continues, IsColumn, IsRefused, most_bytes}
 use Rattle.form_codec.specs.declared.fault.TextFault.{TextFault}
 use Rattle.form_codec.proofs.Stuck_laws.{continues_less}
@@ -70,3 +70,22 @@ column_same L M u c to from h = record {
 pub refused_same : (L M : List ℕ → Type 0) (u : List ℕ) (c : ℕ) → ((t : List ℕ) → L t → M t) → ((t : List ℕ) → M t → L t) → IsRefused L u c → IsRefused M u c
 refused_same L M u c to from (inl h) = inl (h.0, column_same L M u c to from h.1)
 refused_same L M u c to from (inr h) = inr (h.0, h.1, continues_same L M (take most_bytes u) to h.2)
+
+-- a text is refused where its first 4,097 bytes are
+pub refused_front : (L : List ℕ → Type 0) (u : List ℕ) (c : ℕ) → IsRefused L u c → IsRefused L (take (most_bytes + 1) u) c
+refused_front L u c (inl h) =
+    let long = length-take (most_bytes + 1) u in
+    let k = h.1 in
+    inl (
+      h.0,
+      record {
+        from = k.from;
+        to = omega (arith, h.0, k.to, long);
+        before = subst (Continues L) (sym (take-take (c - 1) (most_bytes + 1) u (omega (arith, h.0)))) k.before;
+        byte = λ le live. k.byte (omega (arith, le, long)) (subst (Continues L) (take-take c (most_bytes + 1) u h.0) live);
+        end = λ e said. let short : length u ≤ most_bytes + 1 = omega (arith, e, h.0, long) in k.end (omega (arith, e, h.0, long)) (subst L (take_all (most_bytes + 1) u short) said);
+      },
+    )
+refused_front L u c (inr h) =
+    let long = length-take (most_bytes + 1) u in
+    inr (h.0, omega (arith, h.1, long), subst (Continues L) (sym (take-take most_bytes (most_bytes + 1) u (omega arith))) h.2)

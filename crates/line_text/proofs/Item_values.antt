@@ -12,7 +12,8 @@ use Rattle.definitions.specs.declared.line_item.SectionRange.{SectionRange}
 use Rattle.definitions.specs.declared.line_item.LineItem.{LineItem}
 use Rattle.definitions.specs.declared.line_item.LineItem.TheVariants.{Zone, Segment, Joint, Switch, Portal, Buffer, Section, Block, Brake, Silent}
 use Rattle.definitions.specs.ItemText.{item_forms, item_place, item_values, range_values, sign_value, SaysItem, IsItem}
-use Rattle.line_text.specs.Values.{dir_of, end_of, ranges_of, item_of, HasRoom}
+use Rattle.definitions.specs.ItemReading.{dir_of, end_of, ranges_of, item_of}
+use Rattle.line_text.specs.Values.{HasRoom}
 
 -- the item of an item's values
 

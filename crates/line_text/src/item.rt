@@ -2,7 +2,9 @@
 ghost use Rattle.std.specs.Prelude.{◌≡◌, ℕ, List, IfOk, IfErr, Ok, Err};
 ghost use Rattle.edge_io.specs.Writing.{Wrote};
 ghost use Rattle.text_forms.specs.Language.{IsRefused};
+ghost use Rattle.definitions.specs.ItemReading.{item_at};
 ghost use Rattle.definitions.specs.ItemText.{SaysItem, IsItem};
+ghost use Rattle.line_text.specs.Sees.{Sees};
 
 use crate::table::item_rows;
 use crate::values::{item_of, place_of, values_of};
@@ -16,6 +18,8 @@ use form_codec::write::write_line;
 
 /// Reads a line item from its text, without an end of line.
 pub fn read_line_item(text: &[u8]) -> Result<LineItem, TextFault>
+    // It answers what reading by the table of the items gives.
+    ensures read { Sees result (item_at text.now) }
     // The text is the spelling of the item that is read.
     ensures said { IfOk result (λ x. SaysItem x text.now) }
     // The spelling of an item is read as that item.

@@ -4,6 +4,7 @@
 #![tactic(auto)]
 
 pub mod item;
+pub mod line;
 mod table;
 #[cfg(test)]
 mod tests;
@@ -11,3 +12,4 @@ mod values;
 
 pub use form_codec::fault::TextFault;
 pub use item::{read_line_item, write_item};
+pub use line::item_line;

@@ -2,7 +2,8 @@
 ghost use Rattle.std.specs.Prelude.{◌≡◌, ◌≤◌, ◌+◌, ◌*◌, ◌++◌, ◌∷◌, [], length};
 ghost use Rattle.arrayvec.specs.ArrayVec.{array_vec_len};
 ghost use Rattle.definitions.specs.ItemText.{item_place, item_values, range_values, sign_value};
-ghost use Rattle.line_text.specs.Values.{HasRoom, zone_of, segment_of, joint_of, switch_of, portal_of, buffer_of, ranges_of, section_of, block_of, brake_of, silent_of};
+ghost use Rattle.definitions.specs.ItemReading.{zone_of, segment_of, joint_of, switch_of, portal_of, buffer_of, ranges_of, section_of, block_of, brake_of, silent_of};
+ghost use Rattle.line_text.specs.Values.{HasRoom};
 
 use arrayvec::ArrayVec;
 use definitions::item::End;
@@ -14,7 +15,7 @@ pub(crate) type ItemValues = ArrayVec<u64, 18>;
 
 /// An end from its number and its sign.
 fn end_of(segment: u64, sign: u64) -> End
-    ensures { result ≡ Rattle.line_text.specs.Values.end_of segment sign }
+    ensures { result ≡ Rattle.definitions.specs.ItemReading.end_of segment sign }
 {
     let dir = if sign == 0 { Dir::Up } else { Dir::Down };
     End { segment, dir }
@@ -87,7 +88,7 @@ fn buffer(values: &[u64]) -> Option<LineItem>
 }
 
 /// Adds a range for each three values.
-#[tactic(auto, unfolding(crate::specs::Values::ranges_of))]
+#[tactic(auto, unfolding(definitions::specs::ItemReading::ranges_of))]
 fn add_ranges(ranges: &mut ArrayVec<SectionRange, 3>, values: &[u64])
     requires { 3 * array_vec_len ranges.old + length values.now ≤ 9 }
     ensures { ranges.new.items ≡ ranges.old.items ++ ranges_of values.now }
@@ -153,7 +154,7 @@ fn silent(values: &[u64]) -> Option<LineItem>
 /// The item of the form at this place of the table, from its values.
 pub(crate) fn item_of(form: usize, values: &[u64]) -> Option<LineItem>
     requires { HasRoom form values.now }
-    ensures { result ≡ Rattle.line_text.specs.Values.item_of form values.now }
+    ensures { result ≡ Rattle.definitions.specs.ItemReading.item_of form values.now }
 {
     match form {
         0 => zone(values),

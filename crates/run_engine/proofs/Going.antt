@@ -7,8 +7,11 @@ use Rattle.edge_io.specs.declared.stream.Got.TheVariants.{End}
 use Rattle.edge_io.specs.Streams.{Gives}
 use Rattle.definitions.specs.declared.item.Item.{Item}
 use Rattle.definitions.specs.declared.event.Event.{Event}
-use Rattle.definitions.specs.declared.document.TextLine.{TextLine}
-use Rattle.definitions.specs.declared.document.TextLine.TheVariants as says
+use Rattle.definitions.specs.declared.document.ItemLine.{ItemLine}
+use Rattle.definitions.specs.declared.document.ItemLine.TheVariants as says
+use Rattle.definitions.specs.declared.document.EventLine.{EventLine}
+use Rattle.definitions.specs.declared.document.EventLine.TheVariants as tells
+use Rattle.definitions.specs.Grammar.{item_line_of, event_line_of}
 use Rattle.definitions.specs.declared.document.Ending.{Ending}
 use Rattle.definitions.specs.declared.document.Ending.TheVariants as ends
 use Rattle.definitions.specs.Rules.{rule_of, finish_rule}
@@ -17,7 +20,7 @@ use Rattle.definitions.specs.Story.{Story}
 use Rattle.definitions.specs.Steps.{story_of}
 use Rattle.definitions.specs.Premises.{built, too_many, premise_of}
 use Rattle.definitions.specs.Endings.{status_of}
-use Rattle.definitions.specs.Trace.{Stage, Items, Script, Over, is_over, stage_read, stage_ends, second_zone, item_read, event_read, Given}
+use Rattle.definitions.specs.Trace.{Stage, Items, Script, Over, is_over, among_items, in_script, stage_read, stage_ends, second_zone, item_read, event_read, Given}
 use Rattle.byte_feed.specs.Feed.{Feed, fed_gives}
 use Rattle.byte_feed.proofs.Streams.{fed_over}
 use Rattle.run_engine.specs.Shown.{done_early}
@@ -34,19 +37,24 @@ item_never : (n : ℕ) (items : List Item) (i : Item) (second : Bool) (rule : �
 item_never n items i true rule = refl
 item_never n items i false rule = by_test (nat_eq rule 0) (λ y. rw y refl) (λ x. rw x refl)
 
-pub never_done : (n : ℕ) (s : Stage) (t : TextLine) → done_early s ≡ false → done_early (stage_read n s t).stage ≡ false
+items_never : (n : ℕ) (items : List Item) (t : ItemLine) → done_early (among_items n items t).stage ≡ false
+items_never n items says.Passed = refl
+items_never n items (says.Item i) = item_never n items i (second_zone items i) (rule_of items i)
+items_never n items says.Unbuilt = refl
+items_never n items says.Script = by_test (nat_eq (finish_rule items) 0) (λ y. rw y refl) (λ x. rw x refl)
+items_never n items says.Plan = refl
+items_never n items (says.Fault column) = refl
+
+script_never : (n : ℕ) (line : Line) (events : List Event) (count : ℕ) (t : EventLine) → done_early (in_script n line events count t).stage ≡ false
+script_never n line events count tells.Passed = refl
+script_never n line events count (tells.Event e) = built_never n line events count (story_of line events) e
+script_never n line events count tells.Strange = refl
+
+pub never_done : (n : ℕ) (s : Stage) (text : List ℕ) → done_early s ≡ false → done_early (stage_read n s text).stage ≡ false
 unfolding stage_read
-never_done n (Over ending) t h = h
-never_done n (Items items) says.Passed h = refl
-never_done n (Items items) (says.Item i) h = item_never n items i (second_zone items i) (rule_of items i)
-never_done n (Items items) says.Script h = by_test (nat_eq (finish_rule items) 0) (λ y. rw y refl) (λ x. rw x refl)
-never_done n (Items items) (says.Event e) h = refl
-never_done n (Items items) says.Strange h = refl
-never_done n (Script line events count) says.Passed h = refl
-never_done n (Script line events count) (says.Item i) h = refl
-never_done n (Script line events count) says.Script h = refl
-never_done n (Script line events count) (says.Event e) h = built_never n line events count (story_of line events) e
-never_done n (Script line events count) says.Strange h = refl
+never_done n (Items items) text h = items_never n items (item_line_of text)
+never_done n (Script line events count) text h = script_never n line events count (event_line_of text)
+never_done n (Over ending) text h = h
 
 over_ends : (n : ℕ) (s : Stage) → is_over s ≡ true → done_early s ≡ false → status_of (stage_ends n s) ≡ status.Done → ⊥
 unfolding stage_ends
@@ -54,7 +62,9 @@ over_ends n (Items items) h k e = cc
 over_ends n (Script line events count) h k e = cc
 over_ends n (Over ends.Usage) h k e = cc
 over_ends n (Over (ends.Done m)) h k e = cc
+over_ends n (Over (ends.LineColumn m c)) h k e = cc
 over_ends n (Over (ends.Rule m r)) h k e = cc
+over_ends n (Over (ends.ScriptColumn m c)) h k e = cc
 over_ends n (Over (ends.Premise m p)) h k e = cc
 over_ends n (Over ends.Input) h k e = cc
 over_ends n (Over ends.Trains) h k e = cc

@@ -118,7 +118,9 @@ text_front all rest before mid now h w =
 pub gave_whole : (e : Ending) (all : Given) (before now : Option (List ℕ)) → e ≡ all.ending → WroteIs before now all.text → Gave (status_of e) all before now
 gave_whole ends.Usage all before now e w = (ap status_of e, w)
 gave_whole (ends.Done n) all before now e w = (ap status_of e, w)
+gave_whole (ends.LineColumn n c) all before now e w = (ap status_of e, w)
 gave_whole (ends.Rule n r) all before now e w = (ap status_of e, w)
+gave_whole (ends.ScriptColumn n c) all before now e w = (ap status_of e, w)
 gave_whole (ends.Premise n p) all before now e w = (ap status_of e, w)
 gave_whole ends.Input all before now e w = (ap status_of e, w)
 gave_whole ends.Trains all before now e w = (ap status_of e, w)
@@ -162,7 +164,9 @@ fault_uncut faults.Memory left rest before now = tt
 pub end_uncut : (e : Ending) (left rest before now : Option (List ℕ)) → ReadCut (status_of e) left rest before now
 end_uncut ends.Usage left rest before now = tt
 end_uncut (ends.Done n) left rest before now = tt
+end_uncut (ends.LineColumn n c) left rest before now = tt
 end_uncut (ends.Rule n r) left rest before now = tt
+end_uncut (ends.ScriptColumn n c) left rest before now = tt
 end_uncut (ends.Premise n p) left rest before now = tt
 end_uncut ends.Input left rest before now = tt
 end_uncut ends.Trains left rest before now = tt
@@ -187,7 +191,9 @@ cut_causes cuts.Memory r0 r w0 w h = h
 pub end_causes : (e : Ending) (r0 r w0 w : ℕ) → r ≡ r0 → w ≡ w0 → Causes (status_of e) r0 r w0 w
 end_causes ends.Usage r0 r w0 w h k = (h, k)
 end_causes (ends.Done n) r0 r w0 w h k = (h, k)
+end_causes (ends.LineColumn n c) r0 r w0 w h k = (h, k)
 end_causes (ends.Rule n x) r0 r w0 w h k = (h, k)
+end_causes (ends.ScriptColumn n c) r0 r w0 w h k = (h, k)
 end_causes (ends.Premise n x) r0 r w0 w h k = (h, k)
 end_causes ends.Input r0 r w0 w h k = (h, k)
 end_causes ends.Trains r0 r w0 w h k = (h, k)

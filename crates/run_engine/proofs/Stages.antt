@@ -6,7 +6,6 @@ use Rattle.std.proofs.lemmas.Bool.Decides.{nat_tests}
 use Rattle.definitions.specs.declared.event.Event.{Event}
 use Rattle.definitions.specs.declared.outcome.Outcome.{Outcome}
 use Rattle.definitions.specs.declared.document.Ending.TheVariants as ends
-use Rattle.definitions.specs.Grammar.{line_of}
 use Rattle.definitions.specs.Premises.{premise_of}
 use Rattle.definitions.specs.Steps.{story_of}
 use Rattle.definitions.specs.Trace.{Stage, Script, Over, After, Went, went, stands_for, quiet, event_read, stage_read, Reading, counted, is_over, input_limit, text_read}
@@ -41,6 +40,6 @@ module _ (n count : ℕ) (h after : History) (e : Event) (old new : List Outcome
       ∙ ap (λ (ls : List Outcome). after_line (Script h.line w.events (count + 1)) ls) (a.4 ∙ ap (λ (os : List Outcome). os ++ w.lines) empty))
 
 -- a text line within the limit, of a document that is not over
-pub text_is : (r : Reading) (size : ℕ) (text : List ℕ) → is_over r.stage ≡ false → r.bytes + size ≤ input_limit → text_read r size text ≡ counted r size (stage_read (r.number + 1) r.stage (line_of text))
+pub text_is : (r : Reading) (size : ℕ) (text : List ℕ) → is_over r.stage ≡ false → r.bytes + size ≤ input_limit → text_read r size text ≡ counted r size (stage_read (r.number + 1) r.stage text)
 unfolding text_read
 text_is r size text on le = let within = le-ltb input_limit (r.bytes + size) le in rw (on, within) refl

@@ -1,5 +1,6 @@
 -- What the definitions see of the engine.
-use Rattle.std.specs.Prelude.{◌≡◌, ℕ, ◌≤◌, Bool, true, false, count_by, Option, Some, None}
+use Rattle.std.specs.Prelude.{◌≡◌, ℕ, ◌≤◌, List, [], Bool, true, false, count_by, Option, Some, None}
+use Rattle.definitions.specs.declared.item.Item.{Item}
 use Rattle.definitions.specs.declared.document.Ending.{Ending}
 use Rattle.definitions.specs.declared.document.Ending.TheVariants as ends
 use Rattle.definitions.specs.Rules.{is_any_zone}
@@ -12,6 +13,18 @@ abbrev pub stage_shown : code.Stage → Stage
 stage_shown (variants.Items builder) = Items builder
 stage_shown (variants.Script system count) = Script system.line system.events count
 stage_shown (variants.Over ending) = Over ending
+
+-- a stage that is among its items
+abbrev pub IsItems : Stage → Type 0
+IsItems (Items items) = Unit {0}
+IsItems (Script line events count) = ⊥
+IsItems (Over ending) = ⊥
+
+-- the items that it has
+abbrev pub items_of : Stage → List Item
+items_of (Items items) = items
+items_of (Script line events count) = line
+items_of (Over ending) = []
 
 -- a stage, once a text line has ended the document, if it did
 abbrev pub left_by : Option Ending → Stage → Stage

@@ -1,20 +1,22 @@
 //! Where a document stands between two text lines.
 ghost use Rattle.std.specs.Prelude.{◌≡◌, [], ◌+◌, ◌-◌, ◌<◌, ◌≤◌, ◌^◌, false, IfOk, OnOk, length, count_by};
 ghost use Rattle.definitions.specs.Rules.{is_any_zone, rule_of, finish_rule};
-ghost use Rattle.definitions.specs.Trace.{Items, Script, is_over, quiet, second_zone, item_read, script_read, event_read, stage_read, stage_ends, text_read, input_limit};
+ghost use Rattle.definitions.specs.Trace.{Items, Script, is_over, quiet, second_zone, item_read, script_read, event_read, among_items, in_script, stage_read, stage_ends, text_read, input_limit};
+ghost use Rattle.definitions.specs.Grammar.{item_line_of, event_line_of};
 ghost use Rattle.definitions.specs.Steps.{story_of};
 ghost use Rattle.definitions.specs.Endings.{status_of};
 ghost use Rattle.run_engine.specs.Faults.{Refuses};
-ghost use Rattle.run_engine.specs.Shown.{stage_shown, left_by, reading_shown, Small, Steady};
+ghost use Rattle.run_engine.specs.Shown.{stage_shown, IsItems, items_of, left_by, reading_shown, Small, Steady};
 
-use definitions::document::{Ending, TextLine};
+use definitions::document::{Ending, EventLine, ItemLine};
 use definitions::event::Event;
 use definitions::item::Item;
 use definitions::outcome::Outcome;
-use document_text::read::text_line;
+use document_text::read::event_line;
 use edge_io::status::Status;
 use line_map::{LineBuilder, LineFault};
 use line_system::{Answer, System};
+use line_text::item_line;
 use msg_codec::Outs;
 use std::alloc::{AllocError, Global};
 use std::mem;
@@ -108,61 +110,79 @@ fn run_event(
 }
 
 /// Text line n is an item.
-#[tactic(auto, unfolding(definitions::specs::Trace::stage_read))]
 fn read_item(n: u64, stage: &mut Stage, item: &Item) -> Result<Option<Ending>, AllocError>
-    requires { is_over (stage_shown stage.old) ≡ false }
-    ensures { IfOk result (λ ending. quiet (left_by ending (stage_shown stage.new)) ≡ stage_read n (stage_shown stage.old) (TextLine.Item item.now)) }
+    requires { IsItems (stage_shown stage.old) }
+    ensures { IfOk result (λ ending. quiet (left_by ending (stage_shown stage.new)) ≡ among_items n (items_of (stage_shown stage.old)) (ItemLine.Item item.now)) }
 {
     match stage {
         Stage::Items(builder) => add_item(n, builder, item),
-        Stage::Script(_, _) => Ok(Some(Ending::Unbuilt(n))),
-        Stage::Over(_) => unreachable!(),
+        Stage::Script(_, _) | Stage::Over(_) => unreachable!(),
     }
 }
 
 /// Text line n is the word that begins the script.
-#[tactic(auto, unfolding(definitions::specs::Trace::stage_read))]
 fn read_script(alloc: Global, n: u64, stage: &mut Stage) -> Result<Option<Ending>, AllocError>
-    requires on { is_over (stage_shown stage.old) ≡ false }
+    requires items { IsItems (stage_shown stage.old) }
     requires steady { Steady (n - 1) (stage_shown stage.old) }
-    ensures { IfOk result (λ ending. quiet (left_by ending (stage_shown stage.new)) ≡ stage_read n (stage_shown stage.old) TextLine.Script) }
+    ensures { IfOk result (λ ending. quiet (left_by ending (stage_shown stage.new)) ≡ among_items n (items_of (stage_shown stage.old)) ItemLine.Script) }
 {
     match mem::replace(stage, Stage::Over(Ending::Input)) {
         Stage::Items(builder) => begin_script(alloc, n, builder, stage),
-        Stage::Script(_, _) => Ok(Some(Ending::Unbuilt(n))),
-        Stage::Over(_) => unreachable!(),
+        Stage::Script(_, _) | Stage::Over(_) => unreachable!(),
     }
 }
 
-/// Text line n is an event. Its outcome lines are added to `lines`, which is empty; `outs` is room for what one step gives.
-#[tactic(auto, unfolding(definitions::specs::Trace::stage_read))]
-fn read_event(
+/// Text line n stands among the items: what ends the document there, if anything.
+fn read_among_items(
+    alloc: Global,
     n: u64,
     stage: &mut Stage,
-    event: &Event,
+    text: &[u8],
+) -> Result<Option<Ending>, AllocError>
+    requires items { IsItems (stage_shown stage.old) }
+    requires steady { Steady (n - 1) (stage_shown stage.old) }
+    ensures { IfOk result (λ ending. quiet (left_by ending (stage_shown stage.new)) ≡ among_items n (items_of (stage_shown stage.old)) (item_line_of text.now)) }
+{
+    match item_line(text) {
+        ItemLine::Passed => Ok(None),
+        ItemLine::Item(item) => read_item(n, stage, &item),
+        ItemLine::Unbuilt => Ok(Some(Ending::Unbuilt(n))),
+        ItemLine::Script => read_script(alloc, n, stage),
+        ItemLine::Plan => Ok(Some(Ending::ScriptColumn(n, 1))),
+        ItemLine::Fault(column) => Ok(Some(Ending::LineColumn(n, column))),
+    }
+}
+
+/// Text line n stands in the script, after so many events. Its outcome lines are added to `lines`, which is empty; `outs` is
+/// room for what one step gives. What ends the document there, if anything.
+fn read_in_script(
+    n: u64,
+    system: &mut System,
+    count: &mut u64,
+    text: &[u8],
     outs: &mut Outs,
     lines: &mut Vec<Outcome>,
 ) -> Result<Option<Ending>, AllocError>
-    requires on { is_over (stage_shown stage.old) ≡ false }
-    requires steady { Steady (n - 1) (stage_shown stage.old) }
-    requires small { n ≤ input_limit + 1 }
+    requires small { count.old + 1 < 2 ^ 64 }
     requires empty { lines.old.items ≡ [] }
-    ensures { IfOk result (λ ending. record { stage = left_by ending (stage_shown stage.new); lines = lines.new.items } ≡ stage_read n (stage_shown stage.old) (TextLine.Event event.now)) }
+    ensures { IfOk result (λ ending. record { stage = left_by ending (Script system.new.line system.new.events count.new); lines = lines.new.items } ≡ in_script n system.old.line system.old.events count.old (event_line_of text.now)) }
 {
-    match stage {
-        Stage::Items(_) => Ok(Some(Ending::Unbuilt(n))),
-        Stage::Script(system, count) => run_event(n, system, count, event, outs, lines),
-        Stage::Over(_) => unreachable!(),
+    let mut says = EventLine::Passed;
+    event_line(text, &mut says);
+    match &says {
+        EventLine::Passed => Ok(None),
+        EventLine::Event(event) => run_event(n, system, count, event, outs, lines),
+        EventLine::Strange => Ok(Some(Ending::Unbuilt(n))),
     }
 }
 
-/// Text line n, which says this: what ends the document there, if anything. A stage that is ended may be spent.
+/// Text line n: what ends the document there, if anything. A stage that is ended may be spent.
 #[tactic(auto, unfolding(definitions::specs::Trace::stage_read))]
 fn read(
     alloc: Global,
     n: u64,
     stage: &mut Stage,
-    says: &TextLine,
+    text: &[u8],
     outs: &mut Outs,
     lines: &mut Vec<Outcome>,
 ) -> Result<Option<Ending>, AllocError>
@@ -170,14 +190,12 @@ fn read(
     requires steady { Steady (n - 1) (stage_shown stage.old) }
     requires small { n ≤ input_limit + 1 }
     requires empty { lines.old.items ≡ [] }
-    ensures { IfOk result (λ ending. record { stage = left_by ending (stage_shown stage.new); lines = lines.new.items } ≡ stage_read n (stage_shown stage.old) says.now) }
+    ensures { IfOk result (λ ending. record { stage = left_by ending (stage_shown stage.new); lines = lines.new.items } ≡ stage_read n (stage_shown stage.old) text.now) }
 {
-    match says {
-        TextLine::Passed => Ok(None),
-        TextLine::Item(item) => read_item(n, stage, item),
-        TextLine::Script => read_script(alloc, n, stage),
-        TextLine::Event(event) => read_event(n, stage, event, outs, lines),
-        TextLine::Strange => Ok(Some(Ending::Unbuilt(n))),
+    match stage {
+        Stage::Items(_) => read_among_items(alloc, n, stage, text),
+        Stage::Script(system, count) => read_in_script(n, system, count, text, outs, lines),
+        Stage::Over(_) => unreachable!(),
     }
 }
 
@@ -225,7 +243,9 @@ pub fn status(ending: &Ending) -> Status
     match *ending {
         Ending::Usage => Status::Usage,
         Ending::Done(_) => Status::Done,
+        Ending::LineColumn(_, _) => Status::Line,
         Ending::Rule(_, _) => Status::Line,
+        Ending::ScriptColumn(_, _) => Status::Script,
         Ending::Premise(_, _) => Status::Premise,
         Ending::Input => Status::Limit,
         Ending::Trains => Status::Limit,
@@ -290,9 +310,7 @@ impl Reading {
             self.stage = Stage::Over(Ending::Input);
             return Ok(());
         }
-        let mut says = TextLine::Passed;
-        text_line(text, &mut says);
-        let ending = read(alloc, self.number + 1, &mut self.stage, &says, outs, lines)?;
+        let ending = read(alloc, self.number + 1, &mut self.stage, text, outs, lines)?;
         end_by(&mut self.stage, ending);
         self.number += 1;
         self.bytes += size;

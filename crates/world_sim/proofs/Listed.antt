@@ -1,5 +1,5 @@
 -- Trains found and changed in their list.
-use Rattle.std.proofs.Common.{◌≡◌, ℕ, zero, suc, ◌+◌, ◌<◌, ◌≤◌, Bool, true, false, not, length, List, [], ◌∷◌, ◌++◌, get_or, refl, sym, ap, subst, ◌∙◌, arith, nat_eq, nat_lt, eqb, Option, Some, None, IfSome, if◌then◌else◌, length-append}
+use Rattle.std.proofs.Common.{◌≡◌, ℕ, zero, suc, ◌+◌, ◌<◌, ◌≤◌, Bool, true, false, not, length, List, [], ◌∷◌, ◌++◌, get_or, refl, sym, ap, subst, ◌∙◌, arith, nat_eq, nat_lt, eqb, Option, Some, None, if◌then◌else◌, length-append}
 use Rattle.std.specs.List.{list_all, position_or_len, position}
 use Rattle.std.specs.Option.{option_or}
 use Rattle.std.proofs.Math.ListN.{set}
@@ -108,11 +108,6 @@ absent t xs h = absent_at t xs (none_at t xs h)
 pub unchanged : (t : ℕ) (f : WorldTrain → WorldTrain) (xs : List WorldTrain) → position (is_train t) xs ≡ None → change_train t f xs ≡ xs
 unchanged t f xs h = none_found t f xs (absent t xs h)
 
-pub place_within : (t : ℕ) (xs : List WorldTrain) (place : Option ℕ) → place ≡ position (is_train t) xs → IfSome place (λ i. i < length xs)
-place_within t xs None h = tt
-place_within t [] (Some i) h = absurd cc
-place_within t (x ∷ xs) (Some i) h = (position-Some (is_train t) (x ∷ xs) i x (sym h)).0
-
 -- the train at its place changed
 changed_at : (t : ℕ) (f : WorldTrain → WorldTrain) (xs : List WorldTrain) (i : ℕ) (d : WorldTrain) → i < length xs → is_train t (get_or xs i d) ≡ true
     → ((k : ℕ) → k < i → is_train t (get_or xs k d) ≡ false) → change_train t f xs ≡ set xs i (f (get_or xs i d))
@@ -188,6 +183,3 @@ kept_push places new xs n x k e speed put = record {
       ∙ (ap (λ (place : Option ℕ). option_or place (if nat_eq x.id.0 t then Some n else None)) (k.placed t b)
       ∙ (ap (λ (m : ℕ). option_or (position (is_train t) xs) (if nat_eq x.id.0 t then Some m else None)) e ∙ sym (pushed (is_train t) xs x)));
 }
-
-pub none_kept : (places : List ℕ) → ((t : ℕ) → place_of places t ≡ None) → AreKept places []
-none_kept places none = record { speeds = refl; placed = λ t b. none t }

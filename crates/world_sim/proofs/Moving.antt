@@ -9,26 +9,11 @@ use Rattle.definitions.specs.Track.{Line, seg_len, next_step, track_from, track_
 use Rattle.definitions.specs.Rules.{is_line}
 use Rattle.definitions.specs.Premises.{on_line}
 use Rattle.definitions.specs.Ways.{front_at}
-use Rattle.line_map.specs.declared.line.After.TheVariants.{Plain, Portal, Buffer}
-use Rattle.line_map.specs.Next.{AfterIs}
 use Rattle.plain_state.specs.declared.Head.{Head}
 use Rattle.way_laws.proofs.Lines.{follower_on_line, long_on_line}
 use Rattle.way_laws.proofs.Track.{next_follows}
 use Rattle.way_laws.proofs.Route.{journey_any}
 use Rattle.world_sim.specs.World.{Reaches, IsHeadOn, moved_to}
-
--- what follows a step
-pub next_there : (next : Option DirSeg) (b : DirSeg) → AfterIs next (Plain b) → next ≡ Some b
-next_there None b h = absurd h
-next_there (Some a) b h = ap (λ x. Some x) h
-
-pub no_next_portal : (next : Option DirSeg) → AfterIs next Portal → next ≡ None
-no_next_portal None h = refl
-no_next_portal (Some a) h = absurd h
-
-pub no_next_buffer : (next : Option DirSeg) → AfterIs next Buffer → next ≡ None
-no_next_buffer None h = refl
-no_next_buffer (Some a) h = absurd h
 
 pub next_declared : (line : Line) (st b : DirSeg) → is_line line ≡ true → on_line line st ≡ true → next_step line st ≡ Some b → on_line line b ≡ true
 next_declared line st b valid on e = follower_on_line line st b valid (next_follows line st b e)
@@ -172,9 +157,6 @@ pub record Stands (line : Line) (first : DirSeg) (before p : ℕ) (st : DirSeg) 
   pub declared : on_line line st ≡ true
   pub track : Reaches line st mark q
   pub same : moved_to line st mark q ≡ moved_to line first before p
-
-pub stands_first : (line : Line) (st : DirSeg) (mark p : ℕ) → on_line line st ≡ true → Reaches line st mark p → Stands line st mark p st mark p
-stands_first line st mark p on r = record { declared = on; track = r; same = refl }
 
 -- beyond the end of a step the next one follows
 pub followed : (line : Line) (first : DirSeg) (before p : ℕ) (st : DirSeg) (mark q : ℕ) → Stands line first before p st mark q → seg_len line st.seg.0 < q → is_some (next_step line st) ≡ true

@@ -110,10 +110,6 @@ pub record Going (line : Line) (moves : List (TrainId × ℕ)) (rest : List (Tra
   pub ascend : ascends rest ≡ true
   pub may : list_all (may_move_found now.trains) rest ≡ true
 
-pub goes_first : (line : Line) (moves : List (TrainId × ℕ)) (w : PlainWorld) → AllOn line w.trains → ascends moves ≡ true → list_all (may_move_found w.trains) moves ≡ true
-    → Going line moves moves w w
-goes_first line moves w each ascend may = record { clock = refl; trains = refl; each = each; ascend = ascend; may = may }
-
 goes_by : (line : Line) (moves : List (TrainId × ℕ)) (x : TrainId × ℕ) (rest : List (TrainId × ℕ)) (w v u : PlainWorld) → is_line line ≡ true → Going line moves (x ∷ rest) w v
     → u ≡ record { clock = v.clock; trains = change_train x.0.0 (moved_train line x.1) v.trains } → Going line moves rest w u
 unfolding trains_moved
@@ -132,14 +128,6 @@ pub goes_on : (line : Line) (moves : List (TrainId × ℕ)) (i : ℕ) (d : Train
 goes_on line moves i d w v u valid l g e =
     let s = drop-cons moves i d l in
     rw (add-one i) (goes_by line moves (get_or moves i d) (drop (suc i) moves) w v u valid (rw s at g) e)
-
--- the next move is one that may be
-pub goes_next : (line : Line) (moves : List (TrainId × ℕ)) (i : ℕ) (d : TrainId × ℕ) (w v : PlainWorld) → i < length moves → Going line moves (drop i moves) w v
-    → may_move_found v.trains (get_or moves i d) ≡ true
-goes_next line moves i d w v l g =
-    let s = drop-cons moves i d l in
-    let may = rw s at g.may in
-    (and_parts (may_move_found v.trains (get_or moves i d)) (list_all (may_move_found v.trains) (drop (suc i) moves)) may).0
 
 pub gone : (line : Line) (moves : List (TrainId × ℕ)) (w v : PlainWorld) → Going line moves [] w v → v ≡ record { clock = w.clock; trains = trains_moved line moves w.trains }
 unfolding trains_moved

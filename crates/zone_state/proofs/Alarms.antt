@@ -1,11 +1,9 @@
 -- The trains after a message: none is there twice, and which of them fall silent.
-use Rattle.std.proofs.Common.{◌≡◌, ℕ, suc, ◌+◌, ◌≤◌, ◌<◌, max, true, false, not, ◌&&◌, List, [], ◌∷◌, ◌++◌, length, map, filter, take, get_or, Option, Some, None, is_some, refl, sym, ap, ◌∙◌, arith, nat_eq, nat_lt, add-one, append_assoc}
+use Rattle.std.proofs.Common.{◌≡◌, ℕ, suc, ◌+◌, ◌≤◌, ◌<◌, max, true, false, not, ◌&&◌, List, [], ◌∷◌, ◌++◌, length, map, Option, Some, None, is_some, refl, sym, ap, ◌∙◌, arith, nat_eq, nat_lt}
 use Rattle.std.specs.Prelude.{⊤}
 use Rattle.std.specs.List.{list_all}
 use Rattle.std.proofs.lemmas.Bool.Decides.{nat_tests}
-use Rattle.std.proofs.Math.Seq.{take-suc}
-use Rattle.std.proofs.lemmas.List.{map-append, append-nil}
-use Rattle.std.proofs.lemmas.List.Elements.{filter-append}
+use Rattle.std.proofs.lemmas.List.{append-nil}
 use Rattle.list_laws.proofs.Tests.{by_test, none_of}
 use Rattle.track_points.specs.declared.ids.TrainId.{TrainId}
 use Rattle.definitions.specs.declared.message.Msg.{Msg}
@@ -205,17 +203,10 @@ fresh_grown clock (x ∷ xs) = rw (fresh_grown clock xs) refl
 
 -- The alarms of some trains, one by one.
 
--- the alarms of so many trains are told after what was told
+-- the alarms of so many trains are told after what was told before
 pub record Told (ms z before clock : ℕ) (trains : List Controlled) (count : ℕ) (old new : Effect) : Type 0 where
   pub all : new ≡ record { issued = old.issued; lines = old.lines ++ alarms_of ms z before clock trains }
   pub few : length new.lines ≤ length old.lines + count
-
-pub alarms_more : (ms z before clock : ℕ) (xs : List Controlled) (i : ℕ) (x : Controlled) → i < length xs → x ≡ get_or xs i x
-    → alarms_of ms z before clock (take (i + 1) xs) ≡ alarms_of ms z before clock (take i xs) ++ alarms_of ms z before clock (x ∷ [])
-alarms_more ms z before clock xs i x l e =
-    let t : take (i + 1) xs ≡ take i xs ++ x ∷ [] = ap (λ (n : ℕ). take n xs) (add-one i) ∙ (take-suc xs i x l ∙ ap (λ (y : Controlled). take i xs ++ y ∷ []) (sym e)) in
-    ap (alarms_of ms z before clock) t
-    ∙ (ap (map (alarm_of z)) (filter-append (falls_silent ms before clock) (take i xs) (x ∷ [])) ∙ map-append (alarm_of z) (filter (falls_silent ms before clock) (take i xs)) (filter (falls_silent ms before clock) (x ∷ [])))
 
 -- where Now has not risen no train falls silent
 alarms_still : (ms z before clock : ℕ) (xs : List Controlled) → clock ≤ before → alarms_of ms z before clock xs ≡ []
@@ -226,19 +217,6 @@ alarms_still ms z before clock (x ∷ xs) l =
 
 abbrev with_lines : Effect → List Outcome → Effect
 with_lines m os = record { issued = m.issued; lines = os }
-
-pub told_none : (ms z before clock : ℕ) (outs : Effect) → Told ms z before clock [] 0 outs outs
-told_none ms z before clock outs = record { all = ap (with_lines outs) (sym (append-nil outs.lines)); few = omega arith }
-
--- one more train, which falls silent or does not
-pub told_more : (ms z before clock : ℕ) (xs : List Controlled) (i : ℕ) (x : Controlled) (old mid new : Effect) → i < length xs → x ≡ get_or xs i x → Told ms z before clock (take i xs) i old mid
-    → new ≡ record { issued = mid.issued; lines = mid.lines ++ alarms_of ms z before clock (x ∷ []) } → length new.lines ≤ length mid.lines + 1
-    → Told ms z before clock (take (i + 1) xs) (i + 1) old new
-told_more ms z before clock xs i x old mid new l e t n one = record {
-  all = n ∙ (ap (λ (m : Effect). with_lines m (m.lines ++ alarms_of ms z before clock (x ∷ []))) t.all
-      ∙ ap (with_lines old) (append_assoc old.lines (alarms_of ms z before clock (take i xs)) (alarms_of ms z before clock (x ∷ [])) ∙ ap (λ (os : List Outcome). old.lines ++ os) (sym (alarms_more ms z before clock xs i x l e))));
-  few = let f = t.few in omega arith;
-}
 
 pub told_still : (ms z before clock : ℕ) (xs : List Controlled) (outs : Effect) → clock ≤ before → outs ≡ record { issued = outs.issued; lines = outs.lines ++ alarms_of ms z before clock xs }
 told_still ms z before clock xs outs l = ap (with_lines outs) (sym (append-nil outs.lines) ∙ ap (λ (os : List Outcome). outs.lines ++ os) (sym (alarms_still ms z before clock xs l)))

@@ -140,10 +140,6 @@ fit_set line clock [] i x f h = tt
 fit_set line clock (y ∷ ys) zero x f h = (h, f.1)
 fit_set line clock (y ∷ ys) (suc i) x f h = (f.0, fit_set line clock ys i x f.1 h)
 
-pub fit_none : (line : Line) (clock : ℕ) (xs : List Controlled) → xs ≡ [] → AllFit line clock xs
-unfolding AllFit
-fit_none line clock xs e = rw e tt
-
 -- an answer to a train without a shrink
 one_answered : (len : Lengths) (number : ℕ) (taken : Bool) (x : Controlled) → x.pending ≡ None → answered_by number x ≡ answer len number taken x
 one_answered len number taken x none = sym (ap by_shrink none ∙ ap (λ (p : Option Shrink). record (answered_by number x) { pending = p }) (sym none))

@@ -324,7 +324,61 @@ line 2 rule 1
 zone 1
 brake 50 0 1000
 - 10
+unbuilt 2
+= switch is not built
++ four segments
+switch 1 1+ 2- 3- 10
+- 10
+unbuilt 11
+= section is not built
++ four segments
+section 1 1:0:5 2:0:5 3:0:5
+- 10
+unbuilt 11
+= block is not built
++ four segments
+block 1 - 2 3
+- 10
+unbuilt 11
+= the grammar before what is not built
+zone 1
+switch 1 1+ 2- 3-
+- 3
+line 2 column 18
+= not built before the rules
+zone 1
+switch 0 9+ 9- 9- 0
+- 10
 unbuilt 2";
+
+/// The column of each text line that is no item, and the text line; the word of a run and of a race are none.
+pub const COLUMNS: &str = "1 Zone 1
+1  zone 1
+1 \tzone 1
+1 enter 7
+2 scrip
+2 script x
+2 plan 1
+5 zone
+5 zone\t1
+6 zone\x20
+6 zone -1
+7 zone 01
+7 zone 1\x20
+7 zone 1\r
+19 zone 12345678901234
+12 segment 1 1
+8 joint 1 + 2-
+11 joint 1+ 1
+18 switch 1 2+ 3- 4-
+10 section 1
+14 section 1 1:0
+28 section 1 1:0:5 1:5:6 1:6:7 1:7:8
+9 block 1 x
+10 block 1 +
+11 brake 50 0
+9 portal 1
+15 silent 3600000+";
 
 /// Text lines and their forms.
 const TEXTS: &str = "
@@ -354,12 +408,12 @@ done 0
 done 0
 = a leading zero
 zone 01
-- 10
-unbuilt 1
+- 3
+line 1 column 7
 = 14 digits
 zone 10000000000000
-- 10
-unbuilt 1
+- 3
+line 1 column 19
 = 13 digits
 zone 1000000000000
 - 3
@@ -378,8 +432,8 @@ train 7 2000 2000 20000 eq
 unbuilt 12
 = a space too many
 zone  1
-- 10
-unbuilt 1
+- 3
+line 1 column 6
 = an item in the script
 + four segments
 script
@@ -389,8 +443,54 @@ unbuilt 12
 = an event among the items
 + four segments
 enter 7
+- 3
+line 11 column 1
+= an event and an item begin alike
++ four segments
+step 1000
+- 3
+line 11 column 2
+= the column counts within its text line
+zone 1
+
+segment 1 1
+script
+- 3
+line 3 column 12
+= the grammar before the rules
+zone 1
+zone 17\x20
+- 3
+line 2 column 8
+= a comment of one byte
+#
+- 3
+line 2 rule 1
+= no comment
+ #
+- 3
+line 1 column 1
+= a plan in a run
++ four segments
+plan
+- 4
+script 11 column 1
+= a plan before the line is finished
+plan
+- 4
+script 1 column 1
+= a plan in the script
++ four segments
+script
+plan
 - 10
-unbuilt 11
+unbuilt 12
+= the word again
++ four segments
+script
+script
+- 10
+unbuilt 12
 = a train not declared
 + four segments
 script
@@ -2009,4 +2109,4 @@ pub const TABLES: &[&str] = &[
 ];
 
 /// How many rows stand in them.
-pub const ROWS: u32 = 147;
+pub const ROWS: u32 = 161;

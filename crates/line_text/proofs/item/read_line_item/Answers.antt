@@ -2,7 +2,7 @@ use Rattle.std.proofs.Common.{Ok, ap, sym, ◌∙◌}
 use Rattle.text_forms.specs.Tables.{has_room, is_table}
 use Rattle.line_text.proofs.Good_table.{item_table, item_room}
 use Rattle.line_text.proofs.Item_values.{item_fits}
-use Rattle.line_text.proofs.Reading.{said_at, some_said, some_only, none_never, item_not, item_refused, refusal_one}
+use Rattle.line_text.proofs.Reading.{item_taken, item_column, said_at, some_said, some_only, none_never, item_not, item_refused, refusal_one}
 use Rattle.line_text.proofs.item.read_line_item.Goals as goal
 
 pub read_line-requires-clause-room : goal.read_line-requires-clause-room
@@ -42,3 +42,9 @@ returns-in-Err-clause-only c = λ x h. absurd (item_not x c.args.text.now c.in-E
 
 pub returns-in-Err-clause-column : goal.returns-in-Err-clause-column
 returns-in-Err-clause-column c = λ k r. refusal_one c.args.text.now c.in-Err.fault.column k (item_refused c.item_rows.result.now c.args.text.now c.in-Err.fault.column c.item_rows.ensures c.in-Err.ensures.refused) r
+
+pub returns-in-Some-clause-read : goal.returns-in-Some-clause-read
+returns-in-Some-clause-read c = item_taken c.in-Some.item c.args.text.now (returns-in-Some-clause-said c)
+
+pub returns-in-Err-clause-read : goal.returns-in-Err-clause-read
+returns-in-Err-clause-read c = item_column c.args.text.now c.in-Err.fault.column (returns-in-Err-clause-refused c)

@@ -1,5 +1,4 @@
-use Rattle.std.proofs.Common.{◌≡◌, ◌<◌, ◌≤◌, arith, sym, ◌∙◌}
-use Rattle.definitions.specs.Track.{seg_len}
+use Rattle.std.proofs.Common.{arith, ◌∙◌}
 use Rattle.world_sim.proofs.Moving.{followed, stands_on, reach_marks, goes_here}
 use Rattle.world_sim.proofs.trains.moved.Goals as goal
 

@@ -1,4 +1,4 @@
-use Rattle.std.proofs.Common.{◌≡◌, ◌≤◌, ◌<◌, length, refl, ◌∙◌, arith}
+use Rattle.std.proofs.Common.{◌<◌, length, refl, arith}
 use Rattle.definitions.specs.Track.{seg_len}
 use Rattle.zone_reach.specs.Held.{near_trains}
 use Rattle.zone_reach.proofs.Away.{trains_within}

@@ -1,5 +1,5 @@
 use Rattle.std.proofs.Common.{◌≡◌, ap, arith}
-use Rattle.plain_state.specs.Zone.{PlainZone, trains_stepped, clock_after}
+use Rattle.plain_state.specs.Zone.{PlainZone}
 use Rattle.zone_state.specs.Zone.{ZoneKept}
 use Rattle.zone_state.proofs.Advanced.{gives_one, stepped_follows, gave}
 use Rattle.zone_state.proofs.zone.Zone.step.Goals as goal

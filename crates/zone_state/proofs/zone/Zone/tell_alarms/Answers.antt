@@ -1,4 +1,3 @@
-use Rattle.std.proofs.Common.{sym}
 use Rattle.zone_state.proofs.Alarms.{told_still}
 use Rattle.zone_state.proofs.zone.Zone.tell_alarms.Goals as goal
 
