@@ -1,28 +1,24 @@
 -- Notes that say what the items do, as one more item is noted.
-use Rattle.std.proofs.Common.{◌≡◌, ℕ, ◌+◌, ◌<◌, ◌≤◌, length, get_or, Bool, true, false, ◌||◌, ◌&&◌, List, [], ◌∷◌, ◌++◌, if◌then◌else◌, Option, Some, None, refl, sym, ◌∙◌, ap, subst, arith, nat_eq}
-use Rattle.std.specs.Prelude.{is_some, unwrap_or, count_by, ⊤}
-use Rattle.std.specs.List.{list_any}
+use Rattle.std.proofs.Common.{◌≡◌, ℕ, get_or, Bool, true, false, ◌||◌, List, [], ◌∷◌, ◌++◌, if◌then◌else◌, Option, Some, None, refl, sym, ◌∙◌, ap, arith}
+use Rattle.std.specs.Prelude.{is_some, unwrap_or}
 use Rattle.std.proofs.lemmas.Bool.{or_parts}
 use Rattle.std.proofs.lemmas.Bool.Decides.{nat_tests}
 use Rattle.list_laws.proofs.Tests.{by_test}
 use Rattle.track_points.specs.declared.ids.Dir.{Dir}
 use Rattle.track_points.specs.declared.ids.Dir.TheVariants.{Up, Down}
-use Rattle.track_points.specs.Points.{dir_eq}
 use Rattle.definitions.specs.declared.item.End.{End}
 use Rattle.definitions.specs.declared.item.Item.{Item}
 use Rattle.definitions.specs.declared.item.Item.TheVariants.{Zone, Segment, Joint, Portal, Buffer, Silent}
-use Rattle.definitions.specs.Track.{Line, end_eq, uses, is_zone, is_segment, has_zone, has_segment, length_in, zone_in, seg_len, zone_of, is_any_silent, silent_in, silent_after}
+use Rattle.definitions.specs.Track.{Line, end_eq, is_zone, is_segment, has_segment, seg_len, zone_of, is_any_silent, silent_in, silent_after}
 use Rattle.definitions.specs.Rules.{rule_of, is_any_zone, is_any_segment}
-use Rattle.definitions.proofs.Unbroken.{Unbroken, unbroken}
-use Rattle.line_index.specs.declared.ends.EndUse.{EndUse}
+use Rattle.definitions.proofs.Unbroken.{unbroken}
 use Rattle.line_index.specs.declared.ends.EndUse.TheVariants.{Free}
-use Rattle.line_index.specs.declared.table.Entry.{Entry}
 use Rattle.line_index.specs.declared.notes.Notes.{Notes}
-use Rattle.line_index.specs.Uses.{first_use, use_in, use_of}
-use Rattle.line_index.specs.Table.{IsTable, IsFresh, look, end_of}
-use Rattle.line_index.specs.Notes.{Tells, Noted, CanNote, Same, end_at, entry_of, declared_entry, is_noted, length_from, zone_from, use_from, seen, first_silence}
+use Rattle.line_index.specs.Uses.{use_in, use_of}
+use Rattle.line_index.specs.Table.{IsFresh, look, end_of}
+use Rattle.line_index.specs.Notes.{Tells, Noted, CanNote, Same, end_at, entry_of, declared_entry, length_from, zone_from, use_from, seen, first_silence}
 use Rattle.line_index.proofs.Slots.{all_same}
-use Rattle.line_index.proofs.Uses.{use_more, free_in}
+use Rattle.line_index.proofs.Uses.{use_more}
 use Rattle.line_index.proofs.Items.{any_more, count_more, length_more, zone_more, length_none, zone_none, silent_more}
 
 -- an item that declares a segment uses no end

@@ -1,10 +1,10 @@
 -- A table without entries.
-use Rattle.std.proofs.Common.{◌≡◌, ℕ, zero, suc, ◌≤◌, length, get_or, List, [], ◌∷◌, None, refl, sym, ◌∙◌, ap, arith}
+use Rattle.std.proofs.Common.{◌≡◌, ℕ, zero, suc, ◌≤◌, length, get_or, List, [], refl, ◌∙◌, ap, arith}
 use Rattle.std.specs.Vec.{vec_capacity}
 use Rattle.std.proofs.Math.ListN.{replicate}
 use Rattle.std.proofs.lemmas.List.{length-replicate}
 use Rattle.line_index.specs.declared.table.Table.{Table}
-use Rattle.line_index.specs.Table.{IsTable, IsFresh, look, slot_of, at_slot}
+use Rattle.line_index.specs.Table.{IsFresh, slot_of}
 
 pub all_same : {X : Type 0} (x : X) (n k : ℕ) → get_or (replicate n x) k x ≡ x
 all_same x zero k = refl

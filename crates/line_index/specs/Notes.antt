@@ -1,12 +1,11 @@
 -- What an index notes of the items of a line.
-use Rattle.std.specs.Prelude.{◌≡◌, ◌<◌, ◌+◌, ⊤, ℕ, Bool, true, false, ◌||◌, length, slice_index_or, count_by, if◌then◌else◌, Option, Some, None, is_some, unwrap_or}
+use Rattle.std.specs.Prelude.{◌≡◌, ◌<◌, ◌+◌, ⊤, ℕ, Bool, false, ◌||◌, length, slice_index_or, count_by, if◌then◌else◌, Option, Some, None, is_some, unwrap_or}
 use Rattle.std.specs.List.{list_any}
 use Rattle.track_points.specs.declared.ids.Dir.{Dir}
 use Rattle.track_points.specs.declared.ids.Dir.TheVariants.{Up, Down}
 use Rattle.definitions.specs.declared.item.End.{End}
 use Rattle.definitions.specs.declared.item.Item.{Item}
-use Rattle.definitions.specs.declared.item.Item.TheVariants.{Zone, Segment, Joint, Silent}
-use Rattle.definitions.specs.declared.item.Item.TheVariants as item
+use Rattle.definitions.specs.declared.item.Item.TheVariants.{Zone, Segment, Silent}
 use Rattle.definitions.specs.Track.{Line, is_zone, is_segment, has_zone, has_segment, length_in, zone_in, seg_len, zone_of, is_any_silent, silent_after}
 use Rattle.definitions.specs.Rules.{is_any_zone, is_any_segment}
 use Rattle.line_index.specs.declared.ends.EndUse.{EndUse}

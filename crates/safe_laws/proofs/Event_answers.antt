@@ -1,5 +1,5 @@
 -- What a zone's take of an ask gives: the bars and the first obstacle say it.
-use Rattle.std.proofs.Common.{◌≡◌, ℕ, zero, suc, ◌+◌, ◌<◌, ◌≤◌, List, [], ◌∷◌, ◌++◌, length, Option, Some, None, Bool, true, false, ◌&&◌, refl, sym, ◌∙◌, ap, subst, arith}
+use Rattle.std.proofs.Common.{◌≡◌, ℕ, zero, suc, ◌+◌, ◌<◌, ◌≤◌, List, ◌++◌, length, Option, Some, None, Bool, true, false, ◌&&◌, refl, sym, ◌∙◌, ap, subst, arith}
 use Rattle.std.proofs.lemmas.Bool.{and_parts}
 use Rattle.std.proofs.lemmas.Bool.Decides.{nat_tests}
 use Rattle.std.proofs.Math.Bool.{and-false}
@@ -23,7 +23,7 @@ use Rattle.definitions.specs.Fronts.{report_time, silent_by}
 use Rattle.definitions.specs.Authority.{way}
 use Rattle.definitions.specs.Limit.{Reach, barred, further, asked_way, continues, path_of, ask_of, reach_from, barring, limit}
 use Rattle.definitions.specs.Steps.{Effect, path_to, deny, grant, zone_ask, alarms, taking, message, effects}
-use Rattle.definitions.specs.Safe.{IsReach, Denied, Lengthened, AnsweredByReach, Answered, IsLineOfOneZone}
+use Rattle.definitions.specs.Safe.{IsReach, Denied, Lengthened, Answered, IsLineOfOneZone}
 use Rattle.definitions.specs.Zones.{zone_id}
 use Rattle.way_laws.proofs.Reach.{reach_is, reach_granted}
 use Rattle.way_laws.proofs.Grown.{grown_end}

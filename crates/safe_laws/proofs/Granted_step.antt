@@ -22,14 +22,14 @@ use Rattle.definitions.specs.Control.{controls, knows, knows_most, now_with, las
 use Rattle.definitions.specs.Longest.{counted, longest_end}
 use Rattle.definitions.specs.Fronts.{report_time, silent_by}
 use Rattle.definitions.specs.Authority.{way, holder_of}
-use Rattle.definitions.specs.Limit.{Reach, asked_way, continues, path_of, ask_of, reach_from, barring, limit}
-use Rattle.definitions.specs.Steps.{Effect, world_takes, entry_path, enter_or_held, path_to, zone_ask, zone_report, zone_time, zone_takes, alarms, transition, effects}
-use Rattle.definitions.specs.Safe.{IsReach, Granted, IsLineOfOneZone, reached, added_by, added}
+use Rattle.definitions.specs.Limit.{Reach, asked_way, path_of, reach_from, barring, limit}
+use Rattle.definitions.specs.Steps.{Effect, world_takes, entry_path, enter_or_held, zone_ask, zone_report, zone_time, zone_takes, alarms, transition, effects}
+use Rattle.definitions.specs.Safe.{Granted, IsLineOfOneZone, reached, added_by, added}
 use Rattle.event_laws.proofs.Does.{by_does, told_none, take_actors, take_issued}
 use Rattle.event_laws.proofs.Answers.{report_none, zone_other, world_none}
 use Rattle.definitions.specs.Zones.{zone_id}
 use Rattle.way_laws.proofs.Cut.{none_between}
-use Rattle.way_laws.proofs.Reach.{reach_is, reach_granted}
+use Rattle.way_laws.proofs.Reach.{reach_granted}
 use Rattle.event_laws.proofs.Issued.{AllIn, NoAuth, no_issue, AuthHas}
 use Rattle.event_laws.proofs.Admitted.{Admitted}
 use Rattle.motion_laws.proofs.Motion.{Timed, heads_grow}

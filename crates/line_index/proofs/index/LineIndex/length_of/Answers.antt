@@ -1,4 +1,4 @@
-use Rattle.std.proofs.Common.{sym, ◌∙◌}
+use Rattle.std.proofs.Common.{◌∙◌}
 use Rattle.line_index.proofs.Noting.{length_told}
 use Rattle.line_index.proofs.index.LineIndex.length_of.Goals as goal
 

@@ -1,4 +1,4 @@
-use Rattle.std.proofs.Common.{sym, ◌∙◌}
+use Rattle.std.proofs.Common.{◌∙◌}
 use Rattle.line_index.proofs.Noting.{zone_told}
 use Rattle.line_index.proofs.index.LineIndex.zone_of.Goals as goal
 

@@ -1,0 +1,3 @@
+pub mod EventFields
+pub mod EventText
+pub mod Sees
