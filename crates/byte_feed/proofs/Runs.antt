@@ -5,7 +5,6 @@ use Rattle.std.proofs.lemmas.Bool.{ltb-true, ltb-false, lt-ltb, le-ltb}
 use Rattle.std.specs.Prelude.{nat_eq, nat_lt}
 use Rattle.list_laws.proofs.Tests.{by_test}
 use Rattle.definitions.specs.declared.document.Ending.TheVariants as ends
-use Rattle.definitions.specs.Endings.{outcomes_text}
 use Rattle.definitions.specs.Trace.{Over, is_over, input_limit, text_read}
 use Rattle.byte_feed.specs.Feed.{Feed, Fed, Leads, opened, line_fed, kept_on, kept_run, run_on, fed, closed, feds, feds_text, total, ends_lf}
 use Rattle.byte_feed.proofs.Lines.{no_lf_here}
@@ -33,34 +32,34 @@ kept_run_more kept b run = by_test (nat_lt (length kept) 4097)
     rw (full, none) refl)
 
 -- one piece after another
-pub leads_then : (f : Feed) (xs ys : List ℕ) (g : Feed) (x : Fed) → Leads f xs (record { next = g; lines = [] }) → Leads g ys x → Leads f (xs ++ ys) x
+pub leads_then : (f : Feed) (xs ys : List ℕ) (g : Feed) (x : Fed) → Leads f xs (record { next = g; text = [] }) → Leads g ys x → Leads f (xs ++ ys) x
 leads_then f xs ys g x h k = record {
   next = feds_append xs f ys ∙ (ap (λ y. feds y ys) h.next ∙ k.next);
   text = feds_text_append xs f ys ∙ (ap (λ t. t ++ feds_text (feds f xs) ys) h.text ∙ (ap (λ y. feds_text y ys) h.next ∙ k.text));
 }
 
-leads_none : (f : Feed) → Leads f [] (record { next = f; lines = [] })
+leads_none : (f : Feed) → Leads f [] (record { next = f; text = [] })
 unfolding feds feds_text
 leads_none f = record { next = refl; text = refl }
 
-leads_first : (f : Feed) (b : ℕ) (xs : List ℕ) (x y : Fed) → fed f b ≡ x → Leads x.next xs y → outcomes_text x.lines ++ outcomes_text y.lines ≡ outcomes_text y.lines → Leads f (b ∷ xs) y
+leads_first : (f : Feed) (b : ℕ) (xs : List ℕ) (x y : Fed) → fed f b ≡ x → Leads x.next xs y → x.text ++ y.text ≡ y.text → Leads f (b ∷ xs) y
 unfolding feds feds_text
 leads_first f b xs x y e h none = record {
   next = ap (λ z. feds z.next xs) e ∙ h.next;
-  text = ap (λ z. outcomes_text z.lines ++ feds_text z.next xs) e ∙ (ap (λ t. outcomes_text x.lines ++ t) h.text ∙ none);
+  text = ap (λ z. z.text ++ feds_text z.next xs) e ∙ (ap (λ t. x.text ++ t) h.text ∙ none);
 }
 
 leads_one : (f : Feed) (b : ℕ) (x : Fed) → fed f b ≡ x → Leads f (b ∷ []) x
 unfolding feds feds_text
-leads_one f b x e = record { next = ap (λ z. z.next) e; text = ap (λ z. outcomes_text z.lines ++ []) e ∙ append-nil (outcomes_text x.lines) }
+leads_one f b x e = record { next = ap (λ z. z.next) e; text = ap (λ z. z.text ++ []) e ∙ append-nil x.text }
 
 -- after the answer no byte tells anything
-pub leads_over : (xs : List ℕ) (f : Feed) → is_over f.reading.stage ≡ true → Leads f xs (record { next = f; lines = [] })
+pub leads_over : (xs : List ℕ) (f : Feed) → is_over f.reading.stage ≡ true → Leads f xs (record { next = f; text = [] })
 leads_over [] f h = leads_none f
-leads_over (b ∷ xs) f h = leads_first f b xs (record { next = f; lines = [] }) (record { next = f; lines = [] }) (fed_stays f b h) (leads_over xs f h) refl
+leads_over (b ∷ xs) f h = leads_first f b xs (record { next = f; text = [] }) (record { next = f; text = [] }) (fed_stays f b h) (leads_over xs f h) refl
 
 -- a run without an LF, within the limit, is kept
-pub leads_run : (xs : List ℕ) (f : Feed) → is_over f.reading.stage ≡ false → total f + length xs ≤ input_limit → ends_lf xs ≡ false → Leads f xs (record { next = run_on f xs; lines = [] })
+pub leads_run : (xs : List ℕ) (f : Feed) → is_over f.reading.stage ≡ false → total f + length xs ≤ input_limit → ends_lf xs ≡ false → Leads f xs (record { next = run_on f xs; text = [] })
 leads_run [] f on within none =
     let kept : f.kept ≡ kept_run f.kept [] = sym (kept_run_none f.kept) in
     let size : f.size ≡ f.size + 0 = omega arith in
@@ -69,11 +68,11 @@ leads_run [] f on within none =
 leads_run (b ∷ xs) f on within none =
     let k = no_lf_here b xs none in
     let next : Feed = record f { kept = kept_on f.kept b; size = f.size + 1 } in
-    let first : fed f b ≡ record { next = next; lines = [] } = fed_more f b on (le-ltb input_limit (f.reading.bytes + (f.size + 1)) (omega arith)) k.0 in
+    let first : fed f b ≡ record { next = next; text = [] } = fed_more f b on (le-ltb input_limit (f.reading.bytes + (f.size + 1)) (omega arith)) k.0 in
     let kept : kept_run next.kept xs ≡ kept_run f.kept (b ∷ xs) = kept_run_more f.kept b xs in
     let size : next.size + length xs ≡ f.size + length (b ∷ xs) = omega arith in
     let same : run_on next xs ≡ run_on f (b ∷ xs) = ap (λ (ks : List ℕ). record f { kept = ks; size = next.size + length xs }) kept ∙ ap (λ (n : ℕ). record f { kept = kept_run f.kept (b ∷ xs); size = n }) size in
-    rw (← same) (leads_first f b xs (record { next = next; lines = [] }) (record { next = run_on next xs; lines = [] }) first (leads_run xs next on (omega arith) k.1) refl)
+    rw (← same) (leads_first f b xs (record { next = next; text = [] }) (record { next = run_on next xs; text = [] }) first (leads_run xs next on (omega arith) k.1) refl)
 
 -- a run and its LF are one text line
 pub leads_line : (xs : List ℕ) (f : Feed) (at : ℕ) → is_over f.reading.stage ≡ false → at < length xs → total f + (at + 1) ≤ input_limit → ends_lf (take at xs) ≡ false → get_or xs at 0 ≡ 10 → Leads f (take (at + 1) xs) (line_fed (text_read f.reading (f.size + (at + 1)) (kept_run f.kept (take at xs))))
@@ -95,15 +94,15 @@ leads_past xs f left size text on room long none past =
     let g : Feed = run_on f run in
     let r = f.reading in
     let over : Feed = opened (record r { stage = Over ends.Input }) in
-    let is : text_read r size text ≡ record { next = over.reading; lines = [] } = too_long r size text on (lt-ltb input_limit (r.bytes + size) past) in
+    let is : text_read r size text ≡ record { next = over.reading; text = [] } = too_long r size text on (lt-ltb input_limit (r.bytes + size) past) in
     let beyond : nat_lt input_limit (r.bytes + (g.size + 1)) ≡ true = lt-ltb input_limit (r.bytes + (g.size + 1)) (omega arith) in
-    let first : (b : ℕ) → fed g b ≡ record { next = over; lines = [] } = λ b. fed_long g b on beyond ∙ ap line_fed (too_long r (g.size + 1) g.kept on beyond) in
-    let rest : Leads g (drop left xs) (record { next = over; lines = [] }) = ends_there g (drop left xs) over first refl (omega (arith, length-drop left xs)) in
+    let first : (b : ℕ) → fed g b ≡ record { next = over; text = [] } = λ b. fed_long g b on beyond ∙ ap line_fed (too_long r (g.size + 1) g.kept on beyond) in
+    let rest : Leads g (drop left xs) (record { next = over; text = [] }) = ends_there g (drop left xs) over first refl (omega (arith, length-drop left xs)) in
     rw (is, ← take-append-drop left xs) (leads_then f run (drop left xs) g _ (leads_run run f on (omega arith) none) rest)
   where
-    ends_there : (g : Feed) (ys : List ℕ) (over : Feed) → ((b : ℕ) → fed g b ≡ record { next = over; lines = [] }) → is_over over.reading.stage ≡ true → 1 ≤ length ys → Leads g ys (record { next = over; lines = [] })
+    ends_there : (g : Feed) (ys : List ℕ) (over : Feed) → ((b : ℕ) → fed g b ≡ record { next = over; text = [] }) → is_over over.reading.stage ≡ true → 1 ≤ length ys → Leads g ys (record { next = over; text = [] })
     ends_there g [] over first h some = absurd (omega arith)
-    ends_there g (b ∷ ys) over first h some = leads_first g b ys (record { next = over; lines = [] }) (record { next = over; lines = [] }) (first b) (leads_over ys over h) refl
+    ends_there g (b ∷ ys) over first h some = leads_first g b ys (record { next = over; text = [] }) (record { next = over; text = [] }) (first b) (leads_over ys over h) refl
 
 -- where no byte below a place is an LF
 pub no_lf_below : (xs : List ℕ) (n : ℕ) → ((k : ℕ) → k < n → nat_eq (get_or xs k 0) 10 ≡ true → ⊥) → ends_lf (take n xs) ≡ false

@@ -4,15 +4,15 @@ use Rattle.std.proofs.lemmas.Bool.Decides.{nat_tests}
 use Rattle.std.proofs.lemmas.Bool.{ltb-true, lt-ltb, eqb-true}
 use Rattle.std.specs.Prelude.{nat_eq, nat_lt}
 use Rattle.list_laws.proofs.Tests.{by_test}
+use Rattle.definitions.specs.declared.document.Command.{Command}
 use Rattle.definitions.specs.Lines.{text_lines, text_of}
 use Rattle.definitions.specs.declared.document.Ending.TheVariants as ends
-use Rattle.definitions.specs.Endings.{outcomes_text}
 use Rattle.definitions.specs.Trace.{Over, Reading, Step, Given, is_over, start, input_limit, text_read, line_read, stage_ends, behind, ended, given, trace}
 use Rattle.byte_feed.specs.Feed.{Feed, opened, line_fed, kept_on, fed, closed, fed_gives, ends_lf}
 use Rattle.byte_feed.proofs.Lines.{no_lf_more, line_whole, line_last, text_whole, text_last, line_begins}
 use Rattle.byte_feed.proofs.Kept.{text_read_front, kept_more}
 
-pub over_stays : (r : Reading) (size : ℕ) (text : List ℕ) → is_over r.stage ≡ true → text_read r size text ≡ record { next = r; lines = [] }
+pub over_stays : (r : Reading) (size : ℕ) (text : List ℕ) → is_over r.stage ≡ true → text_read r size text ≡ record { next = r; text = [] }
 unfolding text_read
 over_stays r size text h = rw h refl
 
@@ -21,11 +21,11 @@ unfolding given
 given_over r [] h = refl
 given_over r (line ∷ lines) h = rw (over_stays r (length line) (text_of line) h) (given_over r lines h)
 
-pub fed_stays : (f : Feed) (b : ℕ) → is_over f.reading.stage ≡ true → fed f b ≡ record { next = f; lines = [] }
+pub fed_stays : (f : Feed) (b : ℕ) → is_over f.reading.stage ≡ true → fed f b ≡ record { next = f; text = [] }
 unfolding fed
 fed_stays f b h = rw h refl
 
-pub closed_none : (f : Feed) → f.size ≡ 0 → closed f ≡ record { next = f.reading; lines = [] }
+pub closed_none : (f : Feed) → f.size ≡ 0 → closed f ≡ record { next = f.reading; text = [] }
 unfolding closed
 closed_none f h = rw h refl
 
@@ -33,7 +33,7 @@ pub closed_some : (f : Feed) → nat_eq f.size 0 ≡ false → closed f ≡ text
 unfolding closed
 closed_some f h = rw h refl
 
-closed_over : (f : Feed) → is_over f.reading.stage ≡ true → closed f ≡ record { next = f.reading; lines = [] }
+closed_over : (f : Feed) → is_over f.reading.stage ≡ true → closed f ≡ record { next = f.reading; text = [] }
 unfolding closed
 closed_over f h = by_test (nat_eq f.size 0)
     (λ e. rw e refl)
@@ -64,15 +64,15 @@ ends_line f part k =
     ∙ ap (text_read f.reading (length (part ++ 10 ∷ []))) (sym (text_whole part k.no_lf)))
 
 -- a text line that holds a byte past the limit
-pub too_long : (r : Reading) (size : ℕ) (text : List ℕ) → is_over r.stage ≡ false → nat_lt input_limit (r.bytes + size) ≡ true → text_read r size text ≡ record { next = record r { stage = Over ends.Input }; lines = [] }
+pub too_long : (r : Reading) (size : ℕ) (text : List ℕ) → is_over r.stage ≡ false → nat_lt input_limit (r.bytes + size) ≡ true → text_read r size text ≡ record { next = record r { stage = Over ends.Input }; text = [] }
 unfolding text_read
 too_long r size text h e = rw (h, e) refl
 
-given_step : (r : Reading) (line : List ℕ) (lines : List (List ℕ)) → given r (line ∷ lines) ≡ behind (outcomes_text (line_read r line).lines) (given (line_read r line).next lines)
+given_step : (r : Reading) (line : List ℕ) (lines : List (List ℕ)) → given r (line ∷ lines) ≡ behind (line_read r line).text (given (line_read r line).next lines)
 unfolding given
 given_step r line lines = refl
 
-fed_step : (f : Feed) (b : ℕ) (rest : List ℕ) → fed_gives f (b ∷ rest) ≡ behind (outcomes_text (fed f b).lines) (fed_gives (fed f b).next rest)
+fed_step : (f : Feed) (b : ℕ) (rest : List ℕ) → fed_gives f (b ∷ rest) ≡ behind (fed f b).text (fed_gives (fed f b).next rest)
 unfolding fed_gives
 fed_step f b rest = refl
 
@@ -84,15 +84,15 @@ pub fed_lf : (f : Feed) (b : ℕ) → is_over f.reading.stage ≡ false → nat_
 unfolding fed
 fed_lf f b h e is = rw (h, e, is) refl
 
-pub fed_more : (f : Feed) (b : ℕ) → is_over f.reading.stage ≡ false → nat_lt input_limit (f.reading.bytes + (f.size + 1)) ≡ false → nat_eq b 10 ≡ false → fed f b ≡ record { next = record f { kept = kept_on f.kept b; size = f.size + 1 }; lines = [] }
+pub fed_more : (f : Feed) (b : ℕ) → is_over f.reading.stage ≡ false → nat_lt input_limit (f.reading.bytes + (f.size + 1)) ≡ false → nat_eq b 10 ≡ false → fed f b ≡ record { next = record f { kept = kept_on f.kept b; size = f.size + 1 }; text = [] }
 unfolding fed
 fed_more f b h e is = rw (h, e, is) refl
 
 -- a step, and what the text lines give after it
 abbrev went : Step → List (List ℕ) → Given
-went x lines = behind (outcomes_text x.lines) (given x.next lines)
+went x lines = behind x.text (given x.next lines)
 
-went_over : (r : Reading) (lines : List (List ℕ)) → went (record { next = record r { stage = Over ends.Input }; lines = [] }) lines ≡ ended ends.Input
+went_over : (r : Reading) (lines : List (List ℕ)) → went (record { next = record r { stage = Over ends.Input }; text = [] }) lines ≡ ended ends.Input
 unfolding stage_ends
 went_over r lines = given_over (record r { stage = Over ends.Input }) lines refl
 
@@ -121,7 +121,7 @@ gives_long f part b rest k on long =
     let past : nat_lt input_limit (r.bytes + length line) ≡ true = lt-ltb input_limit (r.bytes + length line) (omega (arith, ltb-true input_limit (r.bytes + (f.size + 1)) long, k.size, length_snoc part b, length-append (part ++ b ∷ []) i.more)) in
     let left : fed_gives f (b ∷ rest) ≡ ended ends.Input =
     fed_step f b rest
-    ∙ (ap (λ x. behind (outcomes_text x.lines) (fed_gives x.next rest)) (fed_long f b on long ∙ ap line_fed (too_long r (f.size + 1) f.kept on long))
+    ∙ (ap (λ x. behind x.text (fed_gives x.next rest)) (fed_long f b on long ∙ ap line_fed (too_long r (f.size + 1) f.kept on long))
     ∙ over_gives r rest) in
     let right : given r (text_lines (part ++ b ∷ rest)) ≡ ended ends.Input =
     ap (given r) i.is
@@ -142,8 +142,8 @@ gives (b ∷ rest) f part k = by_test (is_over f.reading.stage)
     let x = text_read f.reading (f.size + 1) f.kept in
     let first : fed_gives f (b ∷ rest) ≡ went x (text_lines rest) =
     fed_step f b rest
-    ∙ (ap (λ y. behind (outcomes_text y.lines) (fed_gives y.next rest)) (fed_lf f b on within lf)
-    ∙ ap (behind (outcomes_text x.lines)) (gives rest (opened x.next) [] (record { kept = refl; size = refl; no_lf = no_lf_none }))) in
+    ∙ (ap (λ y. behind y.text (fed_gives y.next rest)) (fed_lf f b on within lf)
+    ∙ ap (behind x.text) (gives rest (opened x.next) [] (record { kept = refl; size = refl; no_lf = no_lf_none }))) in
     let lines : text_lines (part ++ b ∷ rest) ≡ (part ++ 10 ∷ []) ∷ text_lines rest =
     ap (λ c. text_lines (part ++ c ∷ rest)) e ∙ line_whole part rest k.no_lf in
     first ∙ (ap (λ y. went y (text_lines rest)) (ends_line f part k) ∙ (sym (given_step f.reading (part ++ 10 ∷ []) (text_lines rest)) ∙ ap (given f.reading) (sym lines))))
@@ -155,10 +155,10 @@ gives (b ∷ rest) f part k = by_test (is_over f.reading.stage)
       no_lf = no_lf_more part b k.no_lf other;
     } in
     fed_step f b rest
-    ∙ (ap (λ y. behind (outcomes_text y.lines) (fed_gives y.next rest)) (fed_more f b on within other)
+    ∙ (ap (λ y. behind y.text (fed_gives y.next rest)) (fed_more f b on within other)
     ∙ (gives rest next (part ++ b ∷ []) more ∙ ap (λ xs. given f.reading (text_lines xs)) (append_assoc part (b ∷ []) rest))))))
 
 -- a whole document
-pub trace_fed : (bytes : List ℕ) → fed_gives (opened start) bytes ≡ trace bytes
+pub trace_fed : (c : Command) (bytes : List ℕ) → fed_gives (opened (start c)) bytes ≡ trace c bytes
 unfolding trace
-trace_fed bytes = gives bytes (opened start) [] (record { kept = refl; size = refl; no_lf = no_lf_none })
+trace_fed c bytes = gives bytes (opened (start c)) [] (record { kept = refl; size = refl; no_lf = no_lf_none })

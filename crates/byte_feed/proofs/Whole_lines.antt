@@ -5,8 +5,8 @@ use Rattle.std.proofs.lemmas.Bool.{ltb-true, lt-ltb, eqb-true}
 use Rattle.std.specs.Prelude.{nat_eq, nat_lt}
 use Rattle.list_laws.proofs.Tests.{by_test}
 use Rattle.definitions.specs.declared.document.Ending.TheVariants as ends
+use Rattle.definitions.specs.declared.document.Command.{Command}
 use Rattle.definitions.specs.Lines.{text_lines, text_of}
-use Rattle.definitions.specs.Endings.{outcomes_text}
 use Rattle.definitions.specs.Trace.{Over, Reading, Step, is_over, start, input_limit, text_read, line_read}
 use Rattle.byte_feed.specs.Feed.{Feed, opened, line_fed, kept_on, fed, feds_text, ends_lf, whole_lines, lines_text}
 use Rattle.byte_feed.proofs.Lines.{no_lf_more, line_whole, line_last, line_begins}
@@ -28,12 +28,12 @@ unfolding feds_text
 over_feds [] f h = refl
 over_feds (b ∷ xs) f h = rw (fed_stays f b h) (over_feds xs f h)
 
-feds_step : (f : Feed) (b : ℕ) (rest : List ℕ) → feds_text f (b ∷ rest) ≡ outcomes_text (fed f b).lines ++ feds_text (fed f b).next rest
+feds_step : (f : Feed) (b : ℕ) (rest : List ℕ) → feds_text f (b ∷ rest) ≡ (fed f b).text ++ feds_text (fed f b).next rest
 unfolding feds_text
 feds_step f b rest = refl
 
 abbrev came : Step → List (List ℕ) → List ℕ
-came x lines = outcomes_text x.lines ++ lines_text x.next lines
+came x lines = x.text ++ lines_text x.next lines
 
 whole_step : (r : Reading) (line : List ℕ) (lines : List (List ℕ)) → ends_lf line ≡ true → lines_text r (whole_lines (line ∷ lines)) ≡ came (line_read r line) (whole_lines lines)
 unfolding whole_lines lines_text
@@ -63,7 +63,7 @@ writes (b ∷ rest) f part k = by_test (is_over f.reading.stage)
     let line = (part ++ b ∷ []) ++ i.more in
     let beyond : nat_lt input_limit (f.reading.bytes + length line) ≡ true = lt-ltb input_limit (f.reading.bytes + length line) (omega (arith, ltb-true input_limit (f.reading.bytes + (f.size + 1)) long, k.size, length_snoc part b, length-append (part ++ b ∷ []) i.more)) in
     feds_step f b rest
-    ∙ (ap (λ x. outcomes_text x.lines ++ feds_text x.next rest) (fed_long f b on long ∙ ap line_fed (too_long f.reading (f.size + 1) f.kept on long))
+    ∙ (ap (λ x. x.text ++ feds_text x.next rest) (fed_long f b on long ∙ ap line_fed (too_long f.reading (f.size + 1) f.kept on long))
     ∙ (over_feds rest (opened (record f.reading { stage = Over ends.Input })) refl
     ∙ sym (ap (λ ls. lines_text f.reading (whole_lines ls)) i.is ∙ past f.reading line i.lines on beyond))))
     (λ within. by_test (nat_eq b 10)
@@ -72,8 +72,8 @@ writes (b ∷ rest) f part k = by_test (is_over f.reading.stage)
     let x = text_read f.reading (f.size + 1) f.kept in
     let first : feds_text f (b ∷ rest) ≡ came x (whole_lines (text_lines rest)) =
     feds_step f b rest
-    ∙ (ap (λ y. outcomes_text y.lines ++ feds_text y.next rest) (fed_lf f b on within lf)
-    ∙ ap (λ t. outcomes_text x.lines ++ t) (writes rest (opened x.next) [] (record { kept = refl; size = refl; no_lf = no_lf_none }))) in
+    ∙ (ap (λ y. y.text ++ feds_text y.next rest) (fed_lf f b on within lf)
+    ∙ ap (λ t. x.text ++ t) (writes rest (opened x.next) [] (record { kept = refl; size = refl; no_lf = no_lf_none }))) in
     let lines : text_lines (part ++ b ∷ rest) ≡ (part ++ 10 ∷ []) ∷ text_lines rest =
     ap (λ c. text_lines (part ++ c ∷ rest)) e ∙ line_whole part rest k.no_lf in
     first ∙ (ap (λ y. came y (whole_lines (text_lines rest))) (ends_line f part k)
@@ -86,9 +86,9 @@ writes (b ∷ rest) f part k = by_test (is_over f.reading.stage)
       no_lf = no_lf_more part b k.no_lf other;
     } in
     feds_step f b rest
-    ∙ (ap (λ y. outcomes_text y.lines ++ feds_text y.next rest) (fed_more f b on within other)
+    ∙ (ap (λ y. y.text ++ feds_text y.next rest) (fed_more f b on within other)
     ∙ (writes rest next (part ++ b ∷ []) more ∙ ap (λ xs. lines_text f.reading (whole_lines (text_lines xs))) (append_assoc part (b ∷ []) rest))))))
 
 -- so far, of a document from its start
-pub so_far : (got : List ℕ) → feds_text (opened start) got ≡ lines_text start (whole_lines (text_lines got))
-so_far got = writes got (opened start) [] (record { kept = refl; size = refl; no_lf = no_lf_none })
+pub so_far : (c : Command) (got : List ℕ) → feds_text (opened (start c)) got ≡ lines_text (start c) (whole_lines (text_lines got))
+so_far c got = writes got (opened (start c)) [] (record { kept = refl; size = refl; no_lf = no_lf_none })

@@ -1,7 +1,5 @@
 -- A document byte by byte. Of a text line at most 4,097 bytes are kept, and their number.
 use Rattle.std.specs.Prelude.{◌≡◌, ℕ, ◌+◌, ◌-◌, List, [], ◌∷◌, ◌++◌, length, take, Bool, false, ◌||◌, if◌then◌else◌, nat_lt, nat_eq}
-use Rattle.definitions.specs.declared.outcome.Outcome.{Outcome}
-use Rattle.definitions.specs.Endings.{outcomes_text}
 use Rattle.definitions.specs.Trace.{Reading, Step, is_over, input_limit, text_read, line_read, stage_ends, Given, behind, ended}
 
 -- after the whole text lines: the front of the text line that has begun, and how many bytes it has
@@ -14,14 +12,14 @@ pub record Feed : Type 0 where
 abbrev pub opened : Reading → Feed
 opened r = record { reading = r; kept = []; size = 0 }
 
--- a byte taken: where it leads, and the outcome lines that it wrote
+-- a byte taken: where it leads, and the text that it gives
 pub record Fed : Type 0 where
   pub next : Feed
-  pub lines : List Outcome
+  pub text : List ℕ
 
 -- the byte that ends a text line
 abbrev pub line_fed : Step → Fed
-line_fed x = record { next = opened x.next; lines = x.lines }
+line_fed x = record { next = opened x.next; text = x.text }
 
 -- one byte more of a text line, where there is room
 abbrev pub kept_on : List ℕ → ℕ → List ℕ
@@ -37,34 +35,34 @@ run_on f run = record f { kept = kept_run f.kept run; size = f.size + length run
 -- one byte more
 unfoldable pub fed : Feed → ℕ → Fed
 fed f b =
-    if is_over f.reading.stage then record { next = f; lines = [] }
+    if is_over f.reading.stage then record { next = f; text = [] }
     else if nat_lt input_limit (f.reading.bytes + (f.size + 1)) then line_fed (text_read f.reading (f.size + 1) f.kept)
     else if nat_eq b 10 then line_fed (text_read f.reading (f.size + 1) f.kept)
-    else record { next = record f { kept = kept_on f.kept b; size = f.size + 1 }; lines = [] }
+    else record { next = record f { kept = kept_on f.kept b; size = f.size + 1 }; text = [] }
 
 -- the end of the input
 unfoldable pub closed : Feed → Step
-closed f = if nat_eq f.size 0 then record { next = f.reading; lines = [] } else text_read f.reading f.size f.kept
+closed f = if nat_eq f.size 0 then record { next = f.reading; text = [] } else text_read f.reading f.size f.kept
 
 -- what further bytes give
 unfoldable pub fed_gives : Feed → List ℕ → Given
-fed_gives f [] = behind (outcomes_text (closed f).lines) (ended (stage_ends (closed f).next.number (closed f).next.stage))
-fed_gives f (b ∷ bytes) = behind (outcomes_text (fed f b).lines) (fed_gives (fed f b).next bytes)
+fed_gives f [] = behind (closed f).text (ended (stage_ends (closed f).next.number (closed f).next.stage))
+fed_gives f (b ∷ bytes) = behind (fed f b).text (fed_gives (fed f b).next bytes)
 
 -- where a piece leads
 unfoldable pub feds : Feed → List ℕ → Feed
 feds f [] = f
 feds f (b ∷ bytes) = feds (fed f b).next bytes
 
--- the outcome lines that a piece writes
+-- the text that a piece gives
 unfoldable pub feds_text : Feed → List ℕ → List ℕ
 feds_text f [] = []
-feds_text f (b ∷ bytes) = outcomes_text (fed f b).lines ++ feds_text (fed f b).next bytes
+feds_text f (b ∷ bytes) = (fed f b).text ++ feds_text (fed f b).next bytes
 
--- a piece leads there, and writes those outcome lines
+-- a piece leads there, and gives that text
 pub record Leads (f : Feed) (piece : List ℕ) (x : Fed) : Type 0 where
   pub next : feds f piece ≡ x.next
-  pub text : feds_text f piece ≡ outcomes_text x.lines
+  pub text : feds_text f piece ≡ x.text
 
 -- the bytes taken
 abbrev pub total : Feed → ℕ
@@ -80,7 +78,7 @@ unfoldable pub whole_lines : List (List ℕ) → List (List ℕ)
 whole_lines [] = []
 whole_lines (line ∷ lines) = if ends_lf line then line ∷ whole_lines lines else []
 
--- the outcome lines of text lines
+-- the text that text lines give
 unfoldable pub lines_text : Reading → List (List ℕ) → List ℕ
 lines_text r [] = []
-lines_text r (line ∷ lines) = outcomes_text (line_read r line).lines ++ lines_text (line_read r line).next lines
+lines_text r (line ∷ lines) = (line_read r line).text ++ lines_text (line_read r line).next lines

@@ -12,6 +12,8 @@ use std::process::Abort;
 
 const RUN: &[&str] = &["run"];
 
+const CHECK: &[&str] = &["check"];
+
 /// Four segments in one zone, and a train that comes on and asks for two segments more; the last text line has no LF.
 const ONE_TRAIN: &str = "+ four segments\n+ asks for entry\n+ comes on\n+ goes on";
 
@@ -76,20 +78,21 @@ fn check(rt: &impl Abort, told: &str, holds: bool) {
     assert!(rt; holds, "{told}");
 }
 
-/// The row of a table that is read: its document, and the status and the text that a run of it is to give; and how many rows
-/// were tried.
+/// The row of a table that is read: its document, the command, and the status and the text that this is to give; and how many
+/// rows were tried.
 #[derive(Drop)]
 struct Rows {
     input: Vec<u8>,
+    words: &'static [&'static str],
     code: Option<u8>,
     text: Vec<u8>,
     tried: u32,
 }
 
 impl Rows {
-    /// Whether a run of the row's document gives what the row tells.
+    /// Whether the row's document gives what the row tells.
     fn is_given(&self, alloc: Global) -> Result<bool, AllocError> {
-        let (status, text) = given(alloc, RUN, self.input.as_slice(), &[], &[], 1000)?;
+        let (status, text) = given(alloc, self.words, self.input.as_slice(), &[], &[], 1000)?;
         Ok(Some(status.code()) == self.code && text.as_slice() == self.text.as_slice())
     }
 
@@ -106,17 +109,24 @@ impl Rows {
         Ok(())
     }
 
-    /// Adds a line: one of the document up to the line `- STATUS`, and after it one of the text.
+    /// The end of the document: what a command of it is to give comes next.
+    fn give(&mut self, words: &'static [&'static str], code: &str) {
+        self.words = words;
+        self.code = code.parse::<u8>().ok();
+    }
+
+    /// Adds a line: one of the document up to the line `- STATUS` of a run or `* STATUS` of a check, and after it one of the
+    /// text.
     fn add(&mut self, line: &str) -> Result<(), AllocError> {
         if let Some(code) = line.strip_prefix("- ") {
-            self.code = code.parse::<u8>().ok();
-            return Ok(());
+            self.give(RUN, code);
+        } else if let Some(code) = line.strip_prefix("* ") {
+            self.give(CHECK, code);
+        } else if self.code.is_none() {
+            add_line(&mut self.input, line)?;
+        } else {
+            add_line(&mut self.text, line)?;
         }
-        if self.code.is_none() {
-            return add_line(&mut self.input, line);
-        }
-        self.text.extend_from_slice(line.as_bytes())?;
-        self.text.push(b'\n')?;
         Ok(())
     }
 
@@ -157,6 +167,7 @@ impl Rows {
 fn documents_of_the_tables(rt: HostRuntime) -> Result<(), AllocError> {
     let mut rows = Rows {
         input: Vec::new(rt.alloc()),
+        words: RUN,
         code: None,
         text: Vec::new(rt.alloc()),
         tried: 0,
@@ -233,6 +244,23 @@ const CALLS: &[Call<'static>] = &[
         reads: &[2],
         status: Status::Read,
         text: "entry 1 7 1\nanswer 7 1 taken\ngrant 1 7 2 3+ 300000 1\n",
+        ..CALL
+    },
+    Call {
+        name: "the second read of a check fails",
+        words: CHECK,
+        told: "zone 1\n# a segment\nsegment 1 1 1000\nport",
+        reads: &[2],
+        status: Status::Read,
+        text: "zone 1\nsegment 1 1 1000\n",
+        ..CALL
+    },
+    Call {
+        name: "the first write of a check fails",
+        words: CHECK,
+        writes: &[1],
+        status: Status::Write,
+        text: "",
         ..CALL
     },
     Call {
@@ -445,7 +473,7 @@ fn too_many_segments(rt: HostRuntime) -> Result<(), AllocError> {
     Ok(())
 }
 
-/// Whether so many trains, and what comes after them, give a status and a text.
+/// Whether so many trains, and what comes after them, give a status and a text under a command.
 fn trains_give(
     alloc: Global,
     trains: u32,
@@ -466,16 +494,114 @@ fn trains_give(
     run_gives(alloc, input.as_slice(), status, text)
 }
 
-/// 256 trains may be declared, and no more. The first of them is text line 12, the 257th would be text line 268; a train
-/// that is declared already is refused as such, however many there are.
+/// 256 trains may be declared, and no more. The first of them is text line 12, the 257th would be text line 268; a field that
+/// is refused comes first, as that of a train that is declared already or of an error as great as the length.
 #[test]
 fn too_many_trains(rt: HostRuntime) -> Result<(), AllocError> {
     let again = "train 256 1000 10 100 eq\n";
     let just = trains_give(rt.alloc(), 256, "", Status::Done, "done 256\n")?;
     check(&rt, "256 trains", just);
-    let twice = trains_give(rt.alloc(), 256, again, Status::Unbuilt, "unbuilt 268\n")?;
+    let twice = trains_give(
+        rt.alloc(),
+        256,
+        again,
+        Status::Script,
+        "script 268 column 7\n",
+    )?;
     check(&rt, "a train again", twice);
+    let wrong = trains_give(
+        rt.alloc(),
+        256,
+        "train 257 1000 1000 100 eq\n",
+        Status::Script,
+        "script 268 column 16\n",
+    )?;
+    check(&rt, "a train of another error", wrong);
     let more = trains_give(rt.alloc(), 257, "", Status::Limit, "limit trains 256\n")?;
     check(&rt, "257 trains", more);
+    Ok(())
+}
+
+/// A command of four segments and of a script that begins so, has then so many steps of a millisecond, and then this text line;
+/// the status, and the end of the text.
+#[derive(Clone, Copy)]
+struct Long<'a> {
+    words: &'a [&'a str],
+    begin: &'a str,
+    steps: u32,
+    last: &'a str,
+    status: Status,
+    text: &'a str,
+}
+
+/// Whether it ends so, with that text at its end.
+fn long_gives(alloc: Global, long: &Long<'_>) -> Result<bool, AllocError> {
+    let mut input = Vec::new(alloc);
+    add_document(&mut input, "+ four segments\nscript\n")?;
+    add_document(&mut input, long.begin)?;
+    add_lines(&mut input, b"step 1\n", long.steps)?;
+    input.extend_from_slice(long.last.as_bytes())?;
+    let (status, text) = given(alloc, long.words, input.as_slice(), &[], &[], 2_000_000)?;
+    Ok(status == long.status && text.as_slice().ends_with(long.text.as_bytes()))
+}
+
+/// A check has 200,000 events at most, and so has the history of a run, in which a delivery is its takes: of two that are due
+/// the first alone may have room.
+const LONG: &[Long<'static>] = &[
+    Long {
+        words: RUN,
+        begin: "",
+        steps: 200_000,
+        last: "take 1 0 1",
+        status: Status::Limit,
+        text: "limit events 200000\n",
+    },
+    Long {
+        words: RUN,
+        begin: "",
+        steps: 200_000,
+        last: "step 0",
+        status: Status::Script,
+        text: "script 200012 column 6\n",
+    },
+    Long {
+        words: RUN,
+        begin: "",
+        steps: 200_000,
+        last: "deliver 1",
+        status: Status::Done,
+        text: "done 200001\n",
+    },
+    Long {
+        words: RUN,
+        begin: "train 7 60000 2000 20000 eq\nentry 7 1+\nentry 7 1+\n",
+        steps: 199_996,
+        last: "deliver 1",
+        status: Status::Limit,
+        text: "entry 1 7 1\nlimit events 200000\n",
+    },
+    Long {
+        words: CHECK,
+        begin: "",
+        steps: 200_000,
+        last: "",
+        status: Status::Done,
+        text: "step 1\ndone 200000\n",
+    },
+    Long {
+        words: CHECK,
+        begin: "",
+        steps: 200_000,
+        last: "deliver 1",
+        status: Status::Limit,
+        text: "step 1\nlimit events 200000\n",
+    },
+];
+
+#[test]
+fn too_many_events(rt: HostRuntime) -> Result<(), AllocError> {
+    for long in LONG {
+        check(&rt, long.text, long_gives(rt.alloc(), long)?);
+    }
     Ok(())
 }

@@ -1,9 +1,8 @@
 -- Line items read from their texts: the item that values stand for, form by form, and the column where a text is none.
-use Rattle.std.specs.Prelude.{ℕ, zero, suc, ◌+◌, ◌-◌, List, [], ◌∷◌, length, take, Option, Some, None, Result, Ok, Err, nat_eq, if◌then◌else◌}
+use Rattle.std.specs.Prelude.{ℕ, zero, suc, List, [], ◌∷◌, Option, Some, None, Result, Ok, Err, nat_eq, if◌then◌else◌}
 use Rattle.track_points.specs.declared.ids.Dir.{Dir}
 use Rattle.track_points.specs.declared.ids.Dir.TheVariants.{Up, Down}
-use Rattle.text_forms.specs.Language.{most_bytes}
-use Rattle.text_forms.specs.Reading.{line_at}
+use Rattle.text_forms.specs.Reading.{form_at}
 use Rattle.definitions.specs.declared.item.End.{End}
 use Rattle.definitions.specs.declared.line_item.SectionRange.{SectionRange}
 use Rattle.definitions.specs.declared.line_item.LineItem.{LineItem}
@@ -75,17 +74,15 @@ item_of (suc (suc (suc (suc (suc (suc (suc (suc zero)))))))) vs = brake_of vs
 item_of (suc (suc (suc (suc (suc (suc (suc (suc (suc zero))))))))) vs = silent_of vs
 item_of i vs = None
 
--- an item, or a column; the values of a form of the table are always those of an item
-abbrev pub item_or : ℕ → Option LineItem → Result LineItem ℕ
-item_or column (Some x) = Ok x
-item_or column None = Err column
+-- an item; the values of a form of the table are always those of one
+abbrev pub item_or : Option LineItem → Result LineItem ℕ
+item_or (Some x) = Ok x
+item_or None = Err 1
 
--- a text of so many bytes by what reading gives: a form's place and its values, or how many bytes are left where nothing
--- continues
-abbrev pub item_from : ℕ → Result (ℕ × List ℕ) ℕ → Result LineItem ℕ
-item_from size (Ok x) = item_or (size + 1) (item_of x.0 x.1)
-item_from size (Err left) = Err (size - left + 1)
+abbrev pub item_from : Result (ℕ × List ℕ) ℕ → Result LineItem ℕ
+item_from (Ok x) = item_or (item_of x.0 x.1)
+item_from (Err column) = Err column
 
--- the item that a text is, or the column at which the items refuse it; a text may have 4,096 bytes, so the first 4,097 tell
+-- the item that a text is, or the column at which the items refuse it
 unfoldable pub item_at : List ℕ → Result LineItem ℕ
-item_at text = item_from (length (take (most_bytes + 1) text)) (line_at item_forms (take (most_bytes + 1) text))
+item_at text = item_from (form_at item_forms text)

@@ -1,5 +1,5 @@
 -- The takes that a delivery stands for are admitted where they stand: they name messages that were sent.
-use Rattle.std.proofs.Common.{◌≡◌, ℕ, zero, suc, ◌+◌, ◌-◌, ◌≤◌, ◌<◌, List, [], ◌∷◌, length, Bool, true, false, refl, sym, ◌∙◌, ap, arith}
+use Rattle.std.proofs.Common.{◌≡◌, ℕ, zero, suc, ◌+◌, ◌-◌, ◌≤◌, ◌<◌, List, [], ◌∷◌, length, take, Bool, true, false, refl, sym, ◌∙◌, ap, arith}
 use Rattle.std.proofs.lemmas.Bool.{eqb-true, and_parts, not-true, and_from, le-leb}
 use Rattle.std.proofs.lemmas.Bool.Decides.{nat_tests}
 use Rattle.std.proofs.lemmas.List.Folds.{list_all-append}
@@ -26,6 +26,13 @@ pub kept_went : (line : Line) (more before : List Event) → AllAdmitted line be
 unfolding AllAdmitted Kept went
 kept_went line [] before a k = k
 kept_went line (e ∷ more) before a k = kept_went line more (e ∷ before) a.1 (a.0, k)
+
+-- and so is each of their first ones
+pub admitted_front : (line : Line) (n : ℕ) (more before : List Event) → AllAdmitted line before more → AllAdmitted line before (take n more)
+unfolding AllAdmitted
+admitted_front line zero more before a = tt
+admitted_front line (suc n) [] before a = tt
+admitted_front line (suc n) (e ∷ more) before a = (a.0, admitted_front line n more (e ∷ before) a.1)
 
 -- a take by an actor of a message that was sent to it
 abbrev fits : Line → ℕ → Story → Event → Bool
@@ -97,3 +104,20 @@ one_admitted line before s e is h = (ap (λ x. admits line x e) (sym is) ∙ h, 
 pub stands_admitted : (line : Line) (before : List Event) (s : Story) (e : Event) → s ≡ story_of line before → admits line s e ≡ true → AllAdmitted line before (stands_for line s e)
 stands_admitted line before s (Deliver to) is h = delivery_admitted line before s to is (and_parts (is_actor line to) _ h).0
 stands_admitted line before s e is h = one_admitted line before s e is h
+
+-- What a delivery stands for is takes.
+
+abbrev pub is_take : Event → Bool
+is_take (Take to from number) = true
+is_take _ = false
+
+takes_take : (to from number n : ℕ) → list_all is_take (takes_from to from number n) ≡ true
+unfolding takes_from
+takes_take to from number zero = refl
+takes_take to from number (suc n) = takes_take to from (number + 1) n
+
+pub delivery_takes : (line : Line) (to : ℕ) (s : Story) (senders : List ℕ) → list_all is_take (flat_map (due to s) (filter (sends_to line to) senders)) ≡ true
+delivery_takes line to s [] = refl
+delivery_takes line to s (from ∷ senders) = by_test (sends_to line to from)
+    (λ y. rw y (list_all-append is_take (due to s from) (flat_map (due to s) (filter (sends_to line to) senders)) ∙ and_from _ _ (takes_take to from _ _) (delivery_takes line to s senders)))
+    (λ n. rw n (delivery_takes line to s senders))

@@ -1,9 +1,14 @@
+mod Train_kind
+pub mod Said_built
 pub mod Delivered
-pub mod Clocks
-pub mod Few_numbers
-pub mod Bounds
+mod Few_numbers
+pub mod Slow_clock
 pub mod Throughout
-pub mod Leads
+mod Leads
+mod Written
+mod Items_lead
+mod Run_leads
+mod Check_leads
 pub mod Whole
 pub mod Refused
 mod Worked

@@ -1,32 +1,38 @@
 -- What every stage that is reached keeps, and so safety after each event of every history.
-use Rattle.std.proofs.Common.{◌≡◌, ℕ, zero, suc, ◌+◌, ◌≤◌, ◌<◌, ◌^◌, List, [], ◌∷◌, ◌++◌, length, take, drop, Bool, true, false, refl, sym, ◌∙◌, ap, append_assoc, append-nil, arith}
+use Rattle.std.proofs.Common.{◌≡◌, ℕ, zero, suc, ◌+◌, ◌-◌, ◌≤◌, ◌<◌, ◌^◌, List, [], ◌∷◌, ◌++◌, length, take, drop, Bool, true, false, refl, sym, ◌∙◌, ap, subst, append_assoc, append-nil, arith}
+use Rattle.std.proofs.lemmas.List.{length-drop, length-take}
 use Rattle.std.proofs.lemmas.List.Sums.{sum_by-append}
-use Rattle.std.specs.Prelude.{nat_eq, nat_lt, cond, count_by, ◌&&◌, not}
+use Rattle.std.specs.Prelude.{nat_eq, nat_lt, nat_le, cond, count_by, get_or, Option, Some, None, ◌&&◌, not}
 use Rattle.std.specs.List.{list_any}
-use Rattle.std.proofs.lemmas.Bool.{and_parts, or_parts}
+use Rattle.std.proofs.lemmas.Bool.{and_parts, or_parts, ltb-true, ltb-false}
 use Rattle.list_laws.proofs.Tests.{by_test}
 use Rattle.definitions.specs.declared.item.Item.{Item}
 use Rattle.definitions.specs.declared.item.Item.TheVariants.{Zone, Segment, Joint, Portal, Buffer, Silent}
 use Rattle.definitions.specs.declared.event.Event.{Event}
+use Rattle.definitions.specs.declared.event.Event.TheVariants.{Deliver}
+use Rattle.definitions.specs.declared.document.Command.{Command}
+use Rattle.definitions.specs.declared.document.Command.TheVariants as is
 use Rattle.definitions.specs.declared.document.ItemLine.{ItemLine}
 use Rattle.definitions.specs.declared.document.ItemLine.TheVariants as says
 use Rattle.definitions.specs.declared.document.EventLine.{EventLine}
 use Rattle.definitions.specs.declared.document.EventLine.TheVariants as tells
+use Rattle.definitions.specs.declared.document.Ending.{Ending}
 use Rattle.definitions.specs.Lines.{text_lines, text_of}
 use Rattle.definitions.specs.Grammar.{item_line_of, event_line_of}
 use Rattle.definitions.specs.Track.{Line}
 use Rattle.definitions.specs.Rules.{rule_of, finish_rule, is_any_zone, builds, is_line}
 use Rattle.definitions.specs.Story.{Story}
-use Rattle.definitions.specs.Premises.{built, too_many, premise_of, admits}
-use Rattle.definitions.specs.World.{clock}
+use Rattle.definitions.specs.Premises.{built, too_many, premise_of, admits, beyond_trains}
+use Rattle.definitions.specs.World.{trains}
 use Rattle.definitions.specs.Control.{last_issued}
-use Rattle.definitions.specs.Steps.{story_of}
+use Rattle.definitions.specs.Steps.{story_of, deliveries}
 use Rattle.definitions.specs.Safe.{Kept, IsLineOfOneZone}
-use Rattle.definitions.specs.Trace.{Stage, Items, Script, Over, Reading, start, is_over, input_limit, text_read, line_read, among_items, in_script, stage_read, second_zone, item_read, script_read, stands_for, event_read}
-use Rattle.document_laws.specs.Throughout.{stands, SafeHistory, SafeAt, SafeThroughout}
-use Rattle.document_laws.proofs.Few_numbers.{last_before}
-use Rattle.document_laws.proofs.Bounds.{clock_small, numbers_small}
-use Rattle.document_laws.proofs.Delivered.{kept_went, stands_admitted}
+use Rattle.definitions.specs.Trace.{Stage, Items, Script, Checked, Over, Reading, start, is_over, input_limit, event_limit, text_read, line_read, among_items, in_script, in_check, stage_read, second_zone, item_read, begun, script_read, plan_read, event_checked, went, stands_for, fitting, passes_limit, event_comes, ended_by}
+use Rattle.document_laws.specs.Throughout.{stands, led_to, SafeHistory, SafeUpTo, SafeAt, SafeThroughout}
+use Rattle.document_laws.proofs.Few_numbers.{few_numbers}
+use Rattle.document_laws.proofs.Slow_clock.{slow_clock}
+use Rattle.document_laws.proofs.Delivered.{AllAdmitted, kept_went, admitted_front, delivery_admitted, stands_admitted}
+use Rattle.document_laws.proofs.Said_built.{said_built}
 
 -- the first holds, the second does not, and the third holds
 pub all_three : (x y z : Bool) → (x && (not y && z)) ≡ true → (x ≡ true) × (y ≡ false) × (z ≡ true)
@@ -60,14 +66,59 @@ one_more items (Portal a) c h = omega (arith, c, zones_append items (Portal a �
 one_more items (Buffer a) c h = omega (arith, c, zones_append items (Buffer a ∷ []))
 one_more items (Silent ms) c h = omega (arith, c, zones_append items (Silent ms ∷ []))
 
+-- Histories that keep the premises and the limit on events.
+
+abbrev pub KeptWithin : Line → List Event → Type 0
+KeptWithin line events = Kept line events × (length events ≤ event_limit)
+
+pub went_longer : (line : Line) (more before : List Event) → length (went line before more).events ≡ length before + length more
+unfolding went
+went_longer line [] before = omega arith
+went_longer line (e ∷ more) before = let i = went_longer line more (e ∷ before) in omega (arith, i)
+
+admits_of : (line : Line) (s : Story) (e : Event) → built line s e ≡ true → too_many s e ≡ false → nat_eq (premise_of line s e) 0 ≡ true → admits line s e ≡ true
+admits_of line s e b m p = rw (b, m, p) refl
+
+-- what there is room for: the first takes of a delivery; of another event nothing
+fitting_admitted : (line : Line) (events : List Event) (s : Story) (e : Event) → s ≡ story_of line events → built line s e ≡ true → passes_limit events (stands_for line s e) ≡ true → AllAdmitted line events (fitting events (stands_for line s e))
+unfolding AllAdmitted
+fitting_admitted line events s (Deliver to) is b p = admitted_front line (event_limit - length events) (deliveries line s to) events (delivery_admitted line events s to is b)
+fitting_admitted line events s e is b p =
+    let full : event_limit - length events ≡ 0 = omega (arith, ltb-true event_limit (length events + 1) p) in
+    subst (λ (k : ℕ). AllAdmitted line events (take k (e ∷ []))) (sym full) tt
+
+nothing_more : (line : Line) (events : List Event) → (went line events []).events ≡ events
+unfolding went
+nothing_more line events = refl
+
+-- an event of a script leads from such a history to such a one
+comes_kept : (n : ℕ) (line : Line) (events : List Event) (s : Story) (e : Event) → s ≡ story_of line events → built line s e ≡ true → KeptWithin line events → KeptWithin line (event_comes n line events s e).went.events
+comes_kept n line events s e is b g = by_test (too_many s e)
+    (λ m. rw (m, nothing_more line events) g)
+    (λ m. by_test (passes_limit events (stands_for line s e))
+    (λ p.
+    let more = fitting events (stands_for line s e) in
+    let k = g.1 in
+    rw (m, p) (
+      kept_went line more events (fitting_admitted line events s e is b p) g.0,
+      omega (arith, went_longer line more events, length-take (event_limit - length events) (stands_for line s e), k),
+    ))
+    (λ p. by_test (nat_eq (premise_of line s e) 0)
+    (λ q. rw (m, p, q) (
+      kept_went line (stands_for line s e) events (stands_admitted line events s e is (admits_of line s e b m q)) g.0,
+      omega (arith, went_longer line (stands_for line s e) events, ltb-false event_limit (length events + length (stands_for line s e)) p),
+    ))
+    (λ q. rw (m, p, q, nothing_more line events) g)))
+
 -- what every stage that is reached keeps
 abbrev pub Good : Stage → Type 0
 Good (Items items) = (builds [] items ≡ true) × (count_by is_any_zone items ≤ 1)
-Good (Script line events count) = IsLineOfOneZone line × Kept line events
+Good (Script line events count) = IsLineOfOneZone line × KeptWithin line events
+Good (Checked line known count) = IsLineOfOneZone line
 Good (Over ending) = Unit {0}
 
-good_item : (n : ℕ) (items : List Item) (i : Item) → Good (Items items) → Good (item_read n items i (second_zone items i) (rule_of items i))
-good_item n items i g = by_test (second_zone items i)
+good_item : (c : Command) (n : ℕ) (items : List Item) (text : List ℕ) (i : Item) → Good (Items items) → Good (item_read c n items i text (second_zone items i) (rule_of items i)).stage
+good_item c n items text i g = by_test (second_zone items i)
     (λ y. rw y tt)
     (λ x. by_test (nat_eq (rule_of items i) 0)
     (λ y. rw (x, y) (builds_more [] items i g.0 y, one_more items i g.1 x))
@@ -76,42 +127,57 @@ good_item n items i g = by_test (second_zone items i)
 is_line_of : (items : List Item) → builds [] items ≡ true → nat_eq (finish_rule items) 0 ≡ true → is_line items ≡ true
 is_line_of items b f = rw (b, f) refl
 
-good_script : (n : ℕ) (items : List Item) → Good (Items items) → Good (script_read n items (finish_rule items))
+good_begun : (c : Command) (line : Line) → IsLineOfOneZone line → Good (begun c line)
 unfolding Kept
-good_script n items g = by_test (nat_eq (finish_rule items) 0)
-    (λ y. rw y (record { valid = is_line_of items g.0 y; one = g.1 }, tt))
+good_begun is.Run line g = (g, (tt, omega arith))
+good_begun is.Check line g = g
+
+good_script : (c : Command) (n : ℕ) (items : List Item) (text : List ℕ) → Good (Items items) → Good (script_read c n items text (finish_rule items)).stage
+good_script c n items text g = by_test (nat_eq (finish_rule items) 0)
+    (λ y. rw y (good_begun c items (record { valid = is_line_of items g.0 y; one = g.1 })))
     (λ e. rw e tt)
 
-admits_of : (line : Line) (s : Story) (e : Event) → built line s e ≡ true → too_many s e ≡ false → nat_eq (premise_of line s e) 0 ≡ true → admits line s e ≡ true
-admits_of line s e b m p = rw (b, m, p) refl
+good_plan : (c : Command) (n : ℕ) → Good (plan_read c n).stage
+good_plan is.Run n = tt
+good_plan is.Check n = tt
 
-good_event : (n : ℕ) (line : Line) (events : List Event) (count : ℕ) (s : Story) (e : Event) → s ≡ story_of line events → Good (Script line events count) → Good (event_read n line events count s e).stage
-good_event n line events count s e is g = by_test (built line s e)
-    (λ b. by_test (too_many s e)
-    (λ m. rw (b, m) tt)
-    (λ m. by_test (nat_eq (premise_of line s e) 0)
-    (λ p. rw (b, m, p) (g.0, kept_went line (stands_for line s e) events (stands_admitted line events s e is (admits_of line s e b m p)) g.1))
-    (λ q. rw (b, m, q) tt)))
-    (λ x. rw x tt)
+good_items : (c : Command) (n : ℕ) (items : List Item) (text : List ℕ) (t : ItemLine) → Good (Items items) → Good (among_items c n items text t).stage
+good_items c n items text says.Passed g = g
+good_items c n items text (says.Item i) g = good_item c n items text i g
+good_items c n items text says.Unbuilt g = tt
+good_items c n items text says.Script g = good_script c n items text g
+good_items c n items text says.Plan g = good_plan c n
+good_items c n items text (says.Fault column) g = tt
 
-good_items : (n : ℕ) (items : List Item) (t : ItemLine) → Good (Items items) → Good (among_items n items t).stage
-good_items n items says.Passed g = g
-good_items n items (says.Item i) g = good_item n items i g
-good_items n items says.Unbuilt g = tt
-good_items n items says.Script g = good_script n items g
-good_items n items says.Plan g = tt
-good_items n items (says.Fault column) g = tt
+good_ended : (ending : Option Ending) (s : Stage) → Good s → Good (ended_by ending s)
+good_ended None s g = g
+good_ended (Some ending) s g = tt
 
-good_events : (n : ℕ) (line : Line) (events : List Event) (count : ℕ) (t : EventLine) → Good (Script line events count) → Good (in_script n line events count t).stage
-good_events n line events count tells.Passed g = g
-good_events n line events count (tells.Event e) g = good_event n line events count (story_of line events) e refl g
-good_events n line events count tells.Strange g = tt
+good_events : (n : ℕ) (line : Line) (events : List Event) (count : ℕ) (text : List ℕ) (t : EventLine) → event_line_of line (trains (story_of line events)) text ≡ t → Good (Script line events count) → Good (in_script n line events count t).stage
+good_events n line events count text tells.Passed is g = g
+good_events n line events count text (tells.Event e) is g =
+    let x = event_comes n line events (story_of line events) e in
+    good_ended x.ending (Script line x.went.events (count + 1)) (g.0, comes_kept n line events (story_of line events) e refl (said_built line (story_of line events) text e is) g.1)
+good_events n line events count text tells.Unbuilt is g = tt
+good_events n line events count text (tells.Fault column) is g = tt
 
-good_stage : (n : ℕ) (s : Stage) (text : List ℕ) → Good s → Good (stage_read n s text).stage
+good_checked : (line : Line) (known : List ℕ) (count : ℕ) (text : List ℕ) (e : Event) → IsLineOfOneZone line → Good (event_checked line known count text e).stage
+good_checked line known count text e g = by_test (beyond_trains known e)
+    (λ y. rw y tt)
+    (λ n. by_test (nat_le event_limit count) (λ y. rw (n, y) tt) (λ m. rw (n, m) g))
+
+good_check : (n : ℕ) (line : Line) (known : List ℕ) (count : ℕ) (text : List ℕ) (t : EventLine) → IsLineOfOneZone line → Good (in_check n line known count text t).stage
+good_check n line known count text tells.Passed g = g
+good_check n line known count text (tells.Event e) g = good_checked line known count text e g
+good_check n line known count text tells.Unbuilt g = tt
+good_check n line known count text (tells.Fault column) g = tt
+
+good_stage : (c : Command) (n : ℕ) (s : Stage) (text : List ℕ) → Good s → Good (stage_read c n s text).stage
 unfolding stage_read
-good_stage n (Items items) text g = good_items n items (item_line_of text) g
-good_stage n (Script line events count) text g = good_events n line events count (event_line_of text) g
-good_stage n (Over ending) text g = tt
+good_stage c n (Items items) text g = good_items c n items text (item_line_of text) g
+good_stage c n (Script line events count) text g = good_events n line events count text (event_line_of line (trains (story_of line events)) text) refl g
+good_stage c n (Checked line known count) text g = good_check n line known count text (event_line_of line known text) g
+good_stage c n (Over ending) text g = tt
 
 good_line : (r : Reading) (line : List ℕ) → Good r.stage → Good (line_read r line).next.stage
 unfolding text_read
@@ -119,16 +185,16 @@ good_line r line g = by_test (is_over r.stage)
     (λ y. rw y g)
     (λ x. by_test (nat_lt input_limit (r.bytes + length line))
     (λ y. rw (x, y) tt)
-    (λ z. rw (x, z) (good_stage (r.number + 1) r.stage (text_of line) g)))
+    (λ z. rw (x, z) (good_stage r.command (r.number + 1) r.stage (text_of line) g)))
 
 pub good_stands : (lines : List (List ℕ)) (r : Reading) → Good r.stage → Good (stands r lines).stage
 unfolding stands
 good_stands [] r g = g
 good_stands (line ∷ lines) r g = good_stands lines (line_read r line).next (good_line r line g)
 
-pub good_start : Good start.stage
+pub good_start : (c : Command) → Good (start c).stage
 unfolding builds
-good_start = (refl, omega arith)
+good_start c = (refl, omega arith)
 
 -- the numbers of authorities are small
 abbrev pub SmallNumbers : Line → List Event → Type 0
@@ -145,20 +211,27 @@ kept_before line zero events h = h
 kept_before line (suc k) [] h = h
 kept_before line (suc k) (e ∷ events) h = kept_before line k events h.1
 
-small_before : (line : Line) (k : ℕ) (events : List Event) → SmallNumbers line events → SmallNumbers line (drop k events)
-small_before line k events h t = let n = h t in let l = last_before line k events t in omega (arith, n, l)
+small_numbers : (line : Line) (events : List Event) → length events ≤ event_limit → SmallNumbers line events
+small_numbers line events few t = let n = few_numbers line events t in omega (arith, n, few)
 
-abbrev SmallClock : Stage → Type 0
-SmallClock s = (line : Line) (events : List Event) (count : ℕ) → s ≡ Script line events count → clock (story_of line events) < 2 ^ 40
+safe_up_to : SafeStories → (line : Line) (events : List Event) → IsLineOfOneZone line → KeptWithin line events → SafeUpTo line events
+safe_up_to safe line events one g = record {
+  after = λ k. safe line (drop k events) one (kept_before line k events g.0) (small_numbers line (drop k events) (let few = g.1 in omega (arith, few, length-drop k events)));
+  early = let few = g.1 in let slow = slow_clock line events g.0 in omega (arith, few, slow);
+}
 
-abbrev SmallNumbersAt : Stage → Type 0
-SmallNumbersAt s = (line : Line) (events : List Event) (count : ℕ) → s ≡ Script line events count → SmallNumbers line events
+led_kept : (line : Line) (events : List Event) (text : List ℕ) (t : EventLine) → event_line_of line (trains (story_of line events)) text ≡ t → KeptWithin line events → KeptWithin line (led_to line events t)
+led_kept line events text (tells.Event e) is g = comes_kept 0 line events (story_of line events) e refl (said_built line (story_of line events) text e is) g
+led_kept line events text _ is g = g
 
-pub safe_at : SafeStories → (s : Stage) → Good s → SmallClock s → SmallNumbersAt s → SafeAt s
-safe_at safe (Items items) g c n = tt
-safe_at safe (Script line events count) g c n =
-    (λ k. safe line (drop k events) g.0 (kept_before line k events g.1) (small_before line k events (n line events count refl)), c line events count refl)
-safe_at safe (Over ending) g c n = tt
+safe_at : SafeStories → (s : Stage) (text : List ℕ) → Good s → SafeAt s text
+safe_at safe (Items items) text g = tt
+safe_at safe (Script line events count) text g =
+    let t = event_line_of line (trains (story_of line events)) text in
+    (safe_up_to safe line events g.0 g.1, safe_up_to safe line (led_to line events t) g.0 (led_kept line events text t refl g.1))
+safe_at safe (Checked line known count) text g = tt
+safe_at safe (Over ending) text g = tt
 
 pub safe_throughout : SafeStories → (bytes : List ℕ) → SafeThroughout bytes
-safe_throughout safe bytes k = safe_at safe (stands start (take k (text_lines bytes))).stage (good_stands (take k (text_lines bytes)) start good_start) (clock_small bytes k) (numbers_small bytes k)
+safe_throughout safe bytes k =
+    safe_at safe (stands (start is.Run) (take k (text_lines bytes))).stage (text_of (get_or (text_lines bytes) k [])) (good_stands (take k (text_lines bytes)) (start is.Run) (good_start is.Run))

@@ -4,23 +4,34 @@
 ghost use Rattle.std.specs.Prelude.{◌≡◌, ℕ, List, [], false};
 ghost use Rattle.definitions.specs.declared.item.Item.{Item};
 ghost use Rattle.definitions.specs.declared.event.Event.{Event};
+ghost use Rattle.definitions.specs.declared.document.Command.TheVariants.{Run, Check};
 ghost use Rattle.definitions.specs.Trace.{trace};
-ghost use Rattle.document_laws.specs.Whole.{IsDocument, IsDocumentWithoutScript, whole, refuses};
+ghost use Rattle.document_laws.specs.Whole.{IsDocument, IsDocumentWithoutScript, IsCheckable, whole, checked, refuses};
 
-/// A document of items, the word and events gives the outcome lines of its history, in which a delivery is its takes, and
-/// how many events it says.
+/// A document of items, the word and events, when it is run, gives the outcome lines of its history, in which a delivery is
+/// its takes, and how many events it says.
 pub fn document_gives()
-    ensures { (bytes : List ℕ) (items : List Item) (events : List Event) → IsDocument bytes items events → trace bytes ≡ whole items events }
+    ensures { (bytes : List ℕ) (items : List Item) (events : List Event) → IsDocument bytes items events → trace Run bytes ≡ whole items events }
 {}
 
-/// A document of items alone gives no outcome line, and ends as done with no events.
+/// A document of items alone, when it is run, gives no outcome line, and ends as done with no events.
 #[tactic(auto, using(crate::proofs::Whole::document_gives_nothing))]
 pub fn document_gives_nothing()
-    ensures { (bytes : List ℕ) (items : List Item) → IsDocumentWithoutScript bytes items → trace bytes ≡ whole items [] }
+    ensures { (bytes : List ℕ) (items : List Item) → IsDocumentWithoutScript bytes items → trace Run bytes ≡ whole items [] }
 {}
 
-/// No text line of a document is refused: it breaks no rule and no premise, its form is built, and it declares no train
-/// too many.
+/// A document of items, the word and events, when it is checked, is written again without comments and blank lines, and ends
+/// as done with its number of events.
+pub fn checkable_gives()
+    ensures { (bytes : List ℕ) (items : List Item) (events : List Event) → IsCheckable bytes items events → trace Check bytes ≡ checked bytes events }
+{}
+
+/// A document of items alone is written again too, and ends as done with no events.
+pub fn checkable_gives_items()
+    ensures { (bytes : List ℕ) (items : List Item) → IsDocumentWithoutScript bytes items → trace Check bytes ≡ checked bytes [] }
+{}
+
+/// No text line of a document is refused: it breaks no rule and no premise, its form is built, and it passes no limit.
 pub fn never_premise()
-    ensures { (bytes : List ℕ) (items : List Item) (events : List Event) → IsDocument bytes items events → refuses (trace bytes).ending ≡ false }
+    ensures { (bytes : List ℕ) (items : List Item) (events : List Event) → IsDocument bytes items events → refuses (trace Run bytes).ending ≡ false }
 {}

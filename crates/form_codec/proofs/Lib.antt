@@ -15,3 +15,4 @@ pub mod Rows
 pub mod Finding
 pub mod Coded
 pub mod Texts
+pub mod Telling

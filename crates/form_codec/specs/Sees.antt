@@ -1,6 +1,7 @@
 -- What a reader of the code returned is what reading gives.
 use Rattle.std.specs.Prelude.{◌≡◌, ℕ, List, ◌++◌, Result, Ok, Err, ◌+◌, ◌*◌, length}
 use Rattle.std.specs.Borrow.{Bor}
+use Rattle.form_codec.specs.declared.fault.TextFault.{TextFault}
 
 abbrev pub Sees : {X Y : Type 0} → (X → Y) → Result X ℕ → Result Y ℕ → Type 0
 Sees view (Ok x) read = read ≡ Ok (view x)
@@ -31,3 +32,8 @@ PutForm new (Err left) (Err l) = left ≡ l
 abbrev pub PutCode : List ℕ → List ℕ → ℕ → Result (List ℕ × List ℕ) ℕ → Type 0
 PutCode old new code (Ok x) = (new ≡ old ++ x.0) × (code ≡ 2 * length x.1)
 PutCode old new code (Err left) = code ≡ 2 * left + 1
+
+-- the place of the form or the column was returned, and the values stand alone
+abbrev pub SeesForm : List ℕ → Result ℕ TextFault → Result (ℕ × List ℕ) ℕ → Type 0
+SeesForm new (Ok i) read = read ≡ Ok (i, new)
+SeesForm new (Err fault) read = read ≡ Err fault.column

@@ -3,11 +3,11 @@ ghost use Rattle.std.specs.Prelude.{◌≡◌, ◌+◌, ◌*◌, ◌<◌, ◌≤
 ghost use Rattle.arrayvec.specs.ArrayVec.{array_vec_len};
 ghost use Rattle.text_forms.specs.Forms.{words, Says, IsText};
 ghost use Rattle.text_forms.specs.Language.{IsRefused, most_bytes};
-ghost use Rattle.text_forms.specs.Reading.{word_at, part_at, parts_at, groups_at, fields_at, fields_in, line_at};
+ghost use Rattle.text_forms.specs.Reading.{word_at, part_at, parts_at, groups_at, fields_at, fields_in, form_at, line_at};
 ghost use Rattle.text_forms.specs.Rows.{form_of, forms};
 ghost use Rattle.text_forms.specs.Tables.{is_table, has_room};
 ghost use Rattle.form_codec.specs.Finding.{find_at, best_of};
-ghost use Rattle.form_codec.specs.Sees.{Sees, PutRest, PutCode, PutAll, PutForm};
+ghost use Rattle.form_codec.specs.Sees.{Sees, SeesForm, PutRest, PutCode, PutAll, PutForm};
 
 use crate::fault::TextFault;
 use crate::tokens::{byte, hex, number, sign, signed};
@@ -198,6 +198,8 @@ fn line_of(rows: &[Row], values: &mut Values, text: &[u8]) -> Result<usize, usiz
 pub fn read_line(rows: &[Row], values: &mut Values, text: &[u8]) -> Result<usize, TextFault>
     requires room { has_room (forms rows.now) ≡ true }
     requires table { is_table (forms rows.now) ≡ true }
+    // It answers what reading by the table gives.
+    ensures read { SeesForm values.new.items result (form_at (forms rows.now) text.now) }
     // What is read is spelled so.
     ensures said { IfOk result (λ i. Says (forms rows.now) i values.new.items text.now × (length text.now ≤ most_bytes)) }
     // What is spelled so is read.

@@ -19,8 +19,8 @@ use Rattle.definitions.specs.Account.{ruled, takes_shrink}
 use Rattle.definitions.specs.Fold.{account, by_answer}
 use Rattle.definitions.specs.Longest.{longest_end}
 use Rattle.definitions.specs.Fronts.{grown_fronts, is_used, reported, fronts_behind, fronts_taken, possible_front}
-use Rattle.way_laws.proofs.First.{first_is, first_at_most}
-use Rattle.event_laws.proofs.Entries.{fronts_acted, fronts_idle, fronts_uncontrolled}
+use Rattle.way_laws.proofs.First_is.{first_is, first_at_most}
+use Rattle.event_laws.proofs.Account_next.{fronts_acted, fronts_idle, fronts_uncontrolled}
 
 abbrev pub AllFrom : (ℕ → Bool) → ℕ → Type 0
 AllFrom fronts lo = (f : ℕ) → fronts f ≡ true → lo ≤ f

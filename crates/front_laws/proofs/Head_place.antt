@@ -13,9 +13,9 @@ use Rattle.definitions.specs.Control.{controls}
 use Rattle.definitions.specs.Longest.{longest_end, longest_route}
 use Rattle.definitions.specs.Zones.{zone_id}
 use Rattle.motion_laws.proofs.Motion.{place}
-use Rattle.way_laws.proofs.Cut.{cut_some, cut_total, cut_front, cut_end}
-use Rattle.way_laws.proofs.Cuts.{before_last}
-use Rattle.journey_laws.proofs.Journey.{journey_ends}
+use Rattle.way_laws.proofs.Cut_front.{cut_some, cut_total, cut_front, cut_end}
+use Rattle.way_laws.proofs.Cut_cut.{before_last}
+use Rattle.journey_laws.proofs.Journey_track.{journey_ends}
 use Rattle.invariant_laws.proofs.Invariant.{step_begin, ControlIs, Invariant}
 use Rattle.invariant_laws.proofs.One_route.{OneRoute, one_route}
 

@@ -15,7 +15,7 @@ use Rattle.envelope.proofs.Rules.{are_ends}
 use Rattle.envelope.specs.Ends.{least_left, greatest_left, narrowed}
 use Rattle.definitions.specs.Account.{ruled}
 use Rattle.front_laws.proofs.Narrowed_shifted.{least_above}
-use Rattle.front_laws.proofs.Ruled_range.{ruled_is, none_range}
+use Rattle.front_laws.proofs.Ruled_is.{ruled_is, none_range}
 
 module _ (end : ℕ) (keep fronts : ℕ → Bool) (lo hi : ℕ) (r : IsRange fronts lo hi) (o : lo ≤ hi) (h : hi ≤ end) where
   -- the least and the greatest that pass are the ends

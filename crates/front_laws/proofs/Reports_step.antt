@@ -1,8 +1,8 @@
 -- Reports are true when they are made, and stay so.
-use Rattle.journey_laws.proofs.Journey.{first_steps, journey_goes_on}
-use Rattle.way_laws.proofs.Cut.{cut_few}
-use Rattle.event_laws.proofs.Does.{effect_event, is_report, reports, effect_unreported}
-use Rattle.motion_laws.proofs.Moves.{enter_once}
+use Rattle.journey_laws.proofs.Journey_track.{first_steps, journey_goes_on}
+use Rattle.way_laws.proofs.Cut_front.{cut_few}
+use Rattle.event_laws.proofs.By_does.{effect_event, is_report, reports, effect_unreported}
+use Rattle.motion_laws.proofs.Head_step.{enter_once}
 use Rattle.std.proofs.Common.{◌≡◌, ℕ, ◌+◌, ◌-◌, [], ◌∷◌, length, Bool, true, false, ◌&&◌, refl, sym, ◌∙◌, ap, subst, arith, List, ◌<◌, ◌≤◌}
 use Rattle.std.proofs.lemmas.Bool.{eqb-true, and_parts}
 use Rattle.std.proofs.lemmas.Bool.Decides.{nat_tests}
@@ -27,8 +27,8 @@ use Rattle.definitions.specs.Safe.{IsLineOfOneZone}
 use Rattle.definitions.specs.Steps.{effects}
 use Rattle.event_laws.proofs.Issued.{AllIn, AllIssued, all_weaker, in_all_weaker, all_both}
 use Rattle.event_laws.proofs.Admitted.{Admitted}
-use Rattle.event_laws.proofs.Moments.{moment_most}
-use Rattle.event_laws.proofs.Stays.{error_stays, entered_stays}
+use Rattle.event_laws.proofs.Moment_most.{moment_most}
+use Rattle.event_laws.proofs.Facts_stay.{error_stays, entered_stays}
 use Rattle.motion_laws.proofs.Motion.{place_at, Timed, place_stays, head_next}
 use Rattle.invariant_laws.proofs.Invariant.{step_begin, ReportIs, ReportTrue, Invariant}
 use Rattle.invariant_laws.proofs.One_route.{on_controls}

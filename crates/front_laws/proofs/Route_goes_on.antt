@@ -22,8 +22,8 @@ use Rattle.event_laws.proofs.Issued.{AllIn, in_all_weaker, AuthHas, auth_without
 use Rattle.invariant_laws.proofs.Invariant.{end_read, AuthorityIs, SomeIs, ControlIs, Authorized}
 use Rattle.invariant_laws.proofs.One_route.{newest_end, newest_route}
 use Rattle.invariant_laws.proofs.First_steps.{FirstSteps, end_same, route_same, read_same, controlled_first}
-use Rattle.event_laws.proofs.Entries.{account_next, issued_is}
-use Rattle.front_laws.proofs.Account_moves.{Counts, account_taken, taken_counts}
+use Rattle.event_laws.proofs.Account_next.{account_next, issued_is}
+use Rattle.front_laws.proofs.Taken_counts.{Counts, account_taken, taken_counts}
 
 pub some_weaker : (P Q : Authority → Type 0) → ((a : Authority) → P a → Q a) → (x : Option Authority) → SomeIs P x → SomeIs Q x
 some_weaker P Q w None h = tt

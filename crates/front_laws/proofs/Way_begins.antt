@@ -13,11 +13,11 @@ use Rattle.definitions.specs.Longest.{longest_route}
 use Rattle.definitions.specs.Fronts.{least_rear}
 use Rattle.definitions.specs.Ways.{steps_behind}
 use Rattle.definitions.specs.Zones.{zone_id}
-use Rattle.way_laws.proofs.Track.{is_long, all_long, long_steps}
-use Rattle.way_laws.proofs.Between_places.{behind_take}
+use Rattle.way_laws.proofs.Track_front.{is_long, all_long, long_steps}
+use Rattle.way_laws.proofs.Between_points.{behind_take}
 use Rattle.motion_laws.proofs.Motion.{place, Motion}
 use Rattle.invariant_laws.proofs.Invariant.{ControlIs, FrontsAre, Authorized}
-use Rattle.front_laws.proofs.Front_numbers.{least_rear_is}
+use Rattle.front_laws.proofs.Fronts_numbers.{least_rear_is}
 
 none_behind : (len : Lengths) (steps : List DirSeg) → all_long len steps ≡ true → steps_behind len steps 0 ≡ 0
 unfolding steps_behind

@@ -12,8 +12,8 @@ use Rattle.definitions.specs.Farther.{end_or_0}
 use Rattle.definitions.specs.Longest.{longest_route}
 use Rattle.definitions.specs.Zones.{zone_id}
 use Rattle.motion_laws.proofs.Motion.{Motion}
-use Rattle.way_laws.proofs.Cut.{cut_some, cut_total}
-use Rattle.journey_laws.proofs.Journey.{journey_begins, journey_ends, first_steps}
+use Rattle.way_laws.proofs.Cut_front.{cut_some, cut_total}
+use Rattle.journey_laws.proofs.Journey_track.{journey_begins, journey_ends, first_steps}
 use Rattle.invariant_laws.proofs.Invariant.{step_begin, SomeIs, Authorized}
 use Rattle.invariant_laws.proofs.One_route.{kept_some, kept_reach, one_route}
 

@@ -6,9 +6,9 @@ use Rattle.track_points.specs.Points.{steps_to}
 use Rattle.definitions.specs.Track.{Line, seg_len}
 use Rattle.definitions.specs.Story.{Transition, Story}
 use Rattle.definitions.specs.World.{clock, at_moment, entered, head, journey}
-use Rattle.way_laws.proofs.Cuts.{cut_cut}
+use Rattle.way_laws.proofs.Cut_cut.{cut_cut}
 use Rattle.motion_laws.proofs.Motion.{place, place_at, Motion, place_at_most}
-use Rattle.journey_laws.proofs.Journey.{journey_ends, journey_goes_on}
+use Rattle.journey_laws.proofs.Journey_track.{journey_ends, journey_goes_on}
 use Rattle.invariant_laws.proofs.Invariant.{JourneysAre, Authorized}
 use Rattle.invariant_laws.proofs.One_route.{on_controls}
 use Rattle.invariant_laws.proofs.First_steps.{controlled_some, controlled_reaches}

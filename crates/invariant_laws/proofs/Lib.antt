@@ -1,5 +1,5 @@
 pub mod Invariant
-pub mod One_zone
+pub mod Zone_only
 pub mod One_route
 pub mod First_steps
 pub mod Journeys_stay

@@ -1,2 +1,2 @@
-pub mod Led
-pub mod Journey
+pub mod Led_track
+pub mod Journey_track

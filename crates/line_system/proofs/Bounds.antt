@@ -1,39 +1,15 @@
--- Times and fields of messages stay in their ranges.
-use Rattle.std.proofs.Common.{◌≡◌, ℕ, ◌*◌, ◌≤◌, List, [], ◌∷◌, length, Option, Some, true, ap, arith}
+-- Fields of messages stay in their ranges.
+use Rattle.std.proofs.Common.{◌≡◌, ℕ, Option, Some, true, ap, arith}
 use Rattle.std.specs.Prelude.{slice_get, is_some}
-use Rattle.std.proofs.lemmas.Bool.Decides.{nat_tests}
 use Rattle.list_laws.proofs.Tests.{eq_self}
-use Rattle.definitions.specs.declared.event.Event.{Event}
-use Rattle.definitions.specs.declared.event.Event.TheVariants.{Step}
 use Rattle.definitions.specs.declared.message.Msg.{Msg}
 use Rattle.definitions.specs.declared.message.Msg.TheVariants as msg
 use Rattle.definitions.specs.Track.{Line}
 use Rattle.definitions.specs.Story.{Story, sent}
-use Rattle.definitions.specs.World.{Facts, facts_or, facts_of, is_declared, long_of, elapsed, clock}
-use Rattle.definitions.specs.Premises.{built}
-use Rattle.definitions.specs.Steps.{effects, story_of}
-use Rattle.definitions.specs.Safe.{Kept}
-use Rattle.event_laws.proofs.Admitted.{admitted}
+use Rattle.definitions.specs.World.{Facts, facts_or, facts_of, is_declared, long_of}
 use Rattle.event_laws.proofs.Issued.{issued_all}
-use Rattle.event_laws.proofs.Moments.{clock_next}
-use Rattle.event_laws.proofs.Does.{effect_event}
 use Rattle.invariant_laws.proofs.Invariant.{Invariant, EntryIs, RequestTrue}
 use Rattle.zone_state.specs.Zone.{InRange}
-
-elapsed_most : (line : Line) (s : Story) (e : Event) → built line s e ≡ true → elapsed e ≤ 60000
-elapsed_most line s (Step ms moves) h = grind (arith, nat_tests)
-elapsed_most line s _ h = omega arith
-
--- the clock rises by at most 60,000 ms with each event
-pub clock_most : (line : Line) (es : List Event) → Kept line es → clock (story_of line es) ≤ 60000 * length es
-unfolding story_of clock Kept
-clock_most line [] k = omega arith
-clock_most line (e ∷ es) k =
-    let i = clock_most line es k.1 in
-    let n = clock_next (effects line (story_of line es) e) (story_of line es) in
-    let same = ap elapsed (effect_event line (story_of line es) e) in
-    let most = elapsed_most line (story_of line es) e (admitted line (story_of line es) e k.0).form in
-    omega arith
 
 long_is : (t : ℕ) (s : Story) (f : Facts) → facts_of t s ≡ Some f → (is_declared t s ≡ true) × (long_of t s ≡ f.long)
 long_is t s f h = (ap (λ (x : Option Facts). is_some x) h, ap (λ (x : Option Facts). (facts_or x).long) h)

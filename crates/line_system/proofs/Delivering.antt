@@ -1,5 +1,5 @@
 -- A delivery, take by take.
-use Rattle.std.proofs.Common.{◌≡◌, ℕ, zero, suc, ◌+◌, ◌-◌, ◌<◌, ◌≤◌, List, [], ◌∷◌, ◌++◌, append_assoc, append-nil, true, false, not, refl, sym, ap, subst, ◌∙◌, arith, nat_eq}
+use Rattle.std.proofs.Common.{◌≡◌, ℕ, length, zero, suc, ◌+◌, ◌-◌, ◌<◌, ◌≤◌, List, [], ◌∷◌, ◌++◌, append_assoc, append-nil, true, false, not, refl, sym, ap, subst, ◌∙◌, arith, nat_eq}
 use Rattle.std.proofs.lemmas.Bool.{eqb-true, and_parts, not-true}
 use Rattle.definitions.specs.declared.event.Event.{Event}
 use Rattle.definitions.specs.declared.event.Event.TheVariants.{Take}
@@ -10,6 +10,7 @@ use Rattle.definitions.specs.Steps.{effects, story_of, takes_from, deliveries}
 use Rattle.definitions.specs.Trace.{Went, went}
 use Rattle.document_laws.proofs.Delivered.{AllAdmitted, delivery_admitted}
 use Rattle.line_system.specs.History.{History}
+use Rattle.line_system.proofs.All_answers.{length_takes}
 
 abbrev as_went : List Event → List Outcome → Went
 as_went es ls = record { events = es; lines = ls }
@@ -146,14 +147,23 @@ midway_keeps h to from taken sent number system old lines m lt act is =
     let at = subst (λ (n : ℕ). Keeps h.line (made h to from taken number).events (Take to from n)) ordinal k in
     subst (λ (x : History). Keeps x.line x.events (Take to from (number + 1))) (sym m.system) at
 
--- all takes were made
-pub midway_end : (h : History) (to from taken sent number : ℕ) (system : History) (old lines : List Outcome) → Midway h to from taken number system old lines → number - taken ≡ sent - taken
-    → deliveries h.line (story_of h.line h.events) to ≡ takes_from to from (taken + 1) (sent - taken)
-    → (system ≡ record { line = h.line; events = (went h.line h.events (deliveries h.line (story_of h.line h.events) to)).events })
-    × (lines ≡ old ++ (went h.line h.events (deliveries h.line (story_of h.line h.events) to)).lines)
-midway_end h to from taken sent number system old lines m over is =
-    let all : made h to from taken number ≡ went h.line h.events (deliveries h.line (story_of h.line h.events) to) =
-    ap (λ (k : ℕ). went h.line h.events (takes_from to from (taken + 1) k)) over ∙ ap (λ (xs : List Event). went h.line h.events xs) (sym is) in (
-      m.system ∙ ap (λ (w : Went). as_history h.line w.events) all,
-      m.lines ∙ ap (λ (w : Went). old ++ w.lines) all,
+-- as many takes were made as there was room for
+pub midway_end : (h : History) (to from taken count number : ℕ) (system : History) (old lines : List Outcome) → Midway h to from taken number system old lines → number ≤ taken + count → taken + count ≤ number
+    → (system ≡ record { line = h.line; events = (went h.line h.events (takes_from to from (taken + 1) count)).events })
+    × (lines ≡ old ++ (went h.line h.events (takes_from to from (taken + 1) count)).lines)
+midway_end h to from taken count number system old lines m most over =
+    let made_all : number - taken ≡ count = omega arith in (
+      rw (← made_all) m.system,
+      rw (← made_all) m.lines,
     )
+
+length_went : (line : Line) (more es : List Event) → length (went line es more).events ≡ length more + length es
+unfolding went
+length_went line [] es = omega arith
+length_went line (e ∷ more) es = let i = length_went line more (e ∷ es) in omega arith
+
+-- there is room for the next take
+pub midway_few : (h : History) (to from taken number : ℕ) (system : History) (old lines : List Outcome) → Midway h to from taken number system old lines → length system.events ≡ (number - taken) + length h.events
+midway_few h to from taken number system old lines m =
+    ap (λ (x : History). length x.events) m.system
+    ∙ (length_went h.line (takes_from to from (taken + 1) (number - taken)) h.events ∙ ap (λ (k : ℕ). k + length h.events) (length_takes to from (taken + 1) (number - taken)))

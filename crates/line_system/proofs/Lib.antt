@@ -1,6 +1,8 @@
 pub mod Links
 pub mod Parts
 pub mod Start
+pub mod Sent_few
+pub mod All_answers
 pub mod Delivering
 pub mod Ordinals
 pub mod Bounds

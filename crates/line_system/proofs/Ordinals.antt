@@ -11,8 +11,8 @@ use Rattle.definitions.specs.Premises.{built}
 use Rattle.definitions.specs.Steps.{effects, taken_by, taken_most}
 use Rattle.definitions.specs.Safe.{IsLineOfOneZone}
 use Rattle.definitions.specs.Zones.{zone_id}
-use Rattle.event_laws.proofs.Does.{effect_event}
-use Rattle.invariant_laws.proofs.One_zone.{zone_only}
+use Rattle.event_laws.proofs.By_does.{effect_event}
+use Rattle.invariant_laws.proofs.Zone_only.{zone_only}
 use Rattle.line_system.specs.State.{Taken, taken_with, taken_behind}
 
 actor_is : (line : Line) (a : ℕ) → IsLineOfOneZone line → is_actor line a ≡ true → nat_eq a 0 ≡ false → a ≡ zone_id line

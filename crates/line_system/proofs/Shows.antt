@@ -14,10 +14,10 @@ use Rattle.definitions.specs.Zones.{zone_id}
 use Rattle.plain_state.specs.Refinement.{zone_train_of, ZoneRefines}
 use Rattle.step_laws.proofs.Invariant_story.{invariant_story}
 use Rattle.zone_state.specs.Zone.{ZoneKept, IsEnvelope}
-use Rattle.refinement_laws.proofs.Values.{way_is_known}
-use Rattle.refinement_laws.proofs.Shown.{found_controls}
-use Rattle.refinement_laws.proofs.Envelopes.{envelope_now}
-use Rattle.refinement_laws.proofs.One_zone.{the_zone}
+use Rattle.refinement_laws.proofs.Facts_is.{way_is_known}
+use Rattle.refinement_laws.proofs.Holds_are.{found_controls}
+use Rattle.refinement_laws.proofs.Envelope_now.{envelope_now}
+use Rattle.refinement_laws.proofs.The_zone.{the_zone}
 use Rattle.line_system.specs.State.{Taken, Parts, plain_of}
 use Rattle.line_system.specs.Kept.{IsKept}
 use Rattle.line_system.specs.Shows.{ShowsEnvelope, ShowsNotions, ShowsWorld}

@@ -17,8 +17,8 @@ use Rattle.world_sim.specs.World.{AllOn}
 use Rattle.line_system.specs.State.{Taken, Parts, taken_start}
 use Rattle.line_map.specs.Order.{count_below, IsZoneAt}
 use Rattle.line_map.proofs.Valid.{zone_ok}
-use Rattle.invariant_laws.proofs.One_zone.{zone_only}
-use Rattle.refinement_laws.proofs.Refining.{refines_start}
+use Rattle.invariant_laws.proofs.Zone_only.{zone_only}
+use Rattle.refinement_laws.proofs.Refines_step.{refines_start}
 use Rattle.line_system.specs.Kept.{IsKept}
 use Rattle.line_system.proofs.Parts.{same_refined}
 

@@ -1,6 +1,6 @@
 -- What the state of a system tells of its story.
-use Rattle.std.proofs.Common.{◌≡◌, ℕ, zero, suc, ◌+◌, ◌-◌, ◌*◌, ◌<◌, ◌≤◌, Bool, true, false, ◌&&◌, ◌||◌, not, List, [], ◌∷◌, ◌++◌, length, Option, Some, None, refl, sym, ap, subst, ◌∙◌, arith, nat_eq, reverse, append-nil}
-use Rattle.std.specs.Prelude.{slice_get, if◌then◌else◌}
+use Rattle.std.proofs.Common.{◌≡◌, ℕ, zero, suc, ◌+◌, ◌-◌, ◌*◌, ◌<◌, ◌≤◌, Bool, true, false, ◌&&◌, ◌||◌, not, List, [], ◌∷◌, ◌++◌, length, Option, Some, None, refl, sym, ap, subst, ◌∙◌, arith, nat_eq, reverse}
+use Rattle.std.specs.Prelude.{is_some, slice_get, if◌then◌else◌}
 use Rattle.std.proofs.Math.Dec.{eqb-suc-zero}
 use Rattle.std.proofs.lemmas.List.{reverse-append, length-reverse}
 use Rattle.std.proofs.lemmas.Bool.{and_parts}
@@ -8,11 +8,10 @@ use Rattle.std.proofs.lemmas.Bool.Decides.{nat_tests}
 use Rattle.definitions.specs.declared.event.Event.{Event}
 use Rattle.definitions.specs.declared.event.Event.TheVariants.{Train, Step, Take, Deliver}
 use Rattle.definitions.specs.declared.message.Msg.{Msg}
-use Rattle.definitions.specs.declared.outcome.Outcome.{Outcome}
 use Rattle.definitions.specs.Track.{Line, ranged, has_zone, is_actor}
 use Rattle.definitions.specs.Story.{Story, sent}
 use Rattle.definitions.specs.Safe.{IsLineOfOneZone, Kept}
-use Rattle.definitions.specs.Trace.{went, stands_for}
+use Rattle.definitions.specs.Trace.{stands_for}
 use Rattle.definitions.specs.Premises.{ascending, built, too_many, premise_of, admits}
 use Rattle.definitions.specs.Steps.{effects, story_of, taken_most, takes_from, deliveries}
 use Rattle.definitions.specs.Zones.{zone_id}
@@ -22,17 +21,23 @@ use Rattle.world_sim.specs.World.{StepFits, IsBuilt, IsWorldOn}
 use Rattle.zone_state.specs.Zone.{ZoneKept, IsZoneOn}
 use Rattle.invariant_laws.proofs.Invariant.{Invariant}
 use Rattle.step_laws.proofs.Invariant_story.{invariant_story}
-use Rattle.refinement_laws.proofs.Refines.{built_is, too_many_is, premise_is, effect_is, refines_next}
+use Rattle.refinement_laws.proofs.Refines_next.{built_is, too_many_is, premise_is, effect_is, refines_next}
 use Rattle.line_system.specs.History.{History}
 use Rattle.line_system.specs.State.{Taken, Parts, plain_of, parts_next, taken_behind, TakenInRange, EventInRange, due_of}
 use Rattle.line_system.specs.Kept.{IsKept}
-use Rattle.line_system.proofs.Bounds.{clock_most, in_range}
+use Rattle.document_laws.proofs.Slow_clock.{slow_clock}
+use Rattle.line_system.proofs.Bounds.{in_range}
 use Rattle.line_system.proofs.Parts.{own_id, from_world, from_zone, parts_refined}
 use Rattle.line_system.proofs.Ordinals.{taken_next}
-use Rattle.refinement_laws.proofs.One_zone.{zone_positive}
+use Rattle.refinement_laws.proofs.Facts_is.{declared_is}
+use Rattle.plain_state.specs.World.{find_train}
+use Rattle.definitions.specs.World.{is_declared}
+use Rattle.refinement_laws.proofs.The_zone.{zone_positive, link_to_zone, link_to_world}
+use Rattle.list_laws.proofs.Tests.{by_test}
+use Rattle.line_system.proofs.Sent_few.{sent_few}
 use Rattle.plain_state.specs.Refinement.{Refines}
-use Rattle.refinement_laws.proofs.Deliveries.{deliveries_zone, deliveries_world}
-use Rattle.invariant_laws.proofs.One_zone.{zone_only}
+use Rattle.refinement_laws.proofs.Deliveries_zone.{deliveries_zone, deliveries_world}
+use Rattle.invariant_laws.proofs.Zone_only.{zone_only}
 
 sounds : (line : Line) → IsLineOfOneZone line → (t : ℕ) → (ts : List Event) → Kept line ts → Invariant line t (story_of line ts)
 sounds line l t ts h = invariant_story line t ts l h
@@ -45,6 +50,9 @@ too_many_plain line es p u z e k = sym (too_many_is line es (plain_of p) e k.one
 
 pub premise_plain : (line : Line) (es : List Event) (p : Parts) (u : Taken) (z : ZoneKept) (e : Event) → IsKept line es p u z → built line (story_of line es) e ≡ true → plain_premise (plain_of p) e ≡ premise_of line (story_of line es) e
 premise_plain line es p u z e k b = sym (premise_is line es (plain_of p) e k.one_zone k.kept k.refines (sounds line k.one_zone) b)
+
+pub declared_plain : (line : Line) (es : List Event) (p : Parts) (u : Taken) (z : ZoneKept) (t : ℕ) → IsKept line es p u z → is_some (find_train t (plain_of p).world.trains) ≡ is_declared t (story_of line es)
+declared_plain line es p u z t k = declared_is line (story_of line es) (plain_of p) k.refines (λ i. sounds line k.one_zone i es k.kept) t
 
 all_three : (a b c : Bool) → a ≡ true → b ≡ false → c ≡ true → (a && (not b && c)) ≡ true
 all_three a b c h k l = grind arith
@@ -160,7 +168,7 @@ module _ (h : History) (line : Line) (xs : List Event) (p : Parts) (u : Taken) (
 
   pub go_clock : p.world.clock ≤ 60000 * length xs
   go_clock =
-      let c = clock_most line (reverse xs) g.keeps.kept in
+      let c = slow_clock line (reverse xs) g.keeps.kept in
       let t = g.keeps.refines.time in
       let n = length-reverse xs in
       omega arith
@@ -215,16 +223,25 @@ due_is h line xs p u z to from taken sent view k act is =
     ap (λ (y : History). deliveries y.line (story_of y.line y.events) to) (sym view)
     ∙ (at ∙ ap (λ (d : ℕ × ℕ × ℕ). takes_from to d.0 (d.1 + 1) (d.2 - d.1)) (sym is))
 
+-- no more messages are due than there are events
+due_most : (line : Line) (es : List Event) (p : Parts) (u : Taken) (z : ZoneKept) (to : ℕ) → IsKept line es p u z → (due_of p u to).2 ≤ length es
+due_most line es p u z to k =
+    let id = own_id line (story_of line es) p k.one_zone k.refines in
+    let a = ap length (sym (from_world line k.one_zone p id) ∙ k.refines.links 0 (zone_id line) (link_to_zone line k.one_zone)) in
+    let b = ap length (sym (from_zone line k.one_zone p id) ∙ k.refines.links (zone_id line) 0 (link_to_world line k.one_zone)) in
+    let c = sent_few line 0 (zone_id line) es in
+    let d = sent_few line (zone_id line) 0 es in
+    by_test (nat_eq to 0) (λ y. rw y (omega arith)) (λ n. rw n (omega arith))
+
+pub due_few : (h : History) (line : Line) (xs : List Event) (p : Parts) (u : Taken) (z : ZoneKept) (to from taken sent : ℕ) → record { line = line; events = reverse xs } ≡ h → IsKept line (reverse xs) p u z
+    → (from, taken, sent) ≡ due_of p u to → sent ≤ length h.events
+due_few h line xs p u z to from taken sent view k is =
+    let most = due_most line (reverse xs) p u z to k in
+    let same = ap (λ (y : History). length y.events) view in
+    let last = ap (λ (d : ℕ × ℕ × ℕ). d.2) is in
+    omega arith
+
 -- An event that is no delivery stands for itself.
-stands_alone : (line : Line) (s : Story) (e : Event) → ((to : ℕ) → e ≡ Deliver to → ⊥) → stands_for line s e ≡ e ∷ []
+pub stands_alone : (line : Line) (s : Story) (e : Event) → ((to : ℕ) → e ≡ Deliver to → ⊥) → stands_for line s e ≡ e ∷ []
 stands_alone line s (Deliver to) other = absurd (other to refl)
 stands_alone line s _ other = refl
-
-went_one : (line : Line) (es : List Event) (e : Event) → went line es (e ∷ []) ≡ record { events = e ∷ es; lines = (effects line (story_of line es) e).lines ++ [] }
-unfolding went
-went_one line es e = refl
-
-pub went_alone : (line : Line) (es : List Event) (e : Event) → ((to : ℕ) → e ≡ Deliver to → ⊥) → went line es (stands_for line (story_of line es) e) ≡ record { events = e ∷ es; lines = (effects line (story_of line es) e).lines }
-went_alone line es e other =
-    ap (λ (xs : List Event). went line es xs) (stands_alone line (story_of line es) e other)
-    ∙ (went_one line es e ∙ ap (λ (ls : List Outcome). record { events = e ∷ es; lines = ls }) (append-nil (effects line (story_of line es) e).lines))

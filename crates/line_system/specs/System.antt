@@ -1,28 +1,39 @@
 -- What a system answers to an event after its history, what it has then, and the outcome lines that it adds.
-use Rattle.std.specs.Prelude.{◌≡◌, ◌<◌, ◌++◌, List, true, false}
+use Rattle.std.specs.Prelude.{◌≡◌, ℕ, ◌++◌, List, Option, Some, None, true, false}
 use Rattle.definitions.specs.declared.event.Event.{Event}
 use Rattle.definitions.specs.declared.outcome.Outcome.{Outcome}
-use Rattle.definitions.specs.Premises.{built, too_many, premise_of}
+use Rattle.definitions.specs.declared.document.Ending.{Ending}
+use Rattle.definitions.specs.declared.document.Ending.TheVariants as ends
+use Rattle.definitions.specs.Premises.{built}
 use Rattle.definitions.specs.Steps.{story_of}
-use Rattle.definitions.specs.Trace.{went, stands_for}
+use Rattle.definitions.specs.Trace.{Came, event_comes}
 use Rattle.line_system.specs.History.{History}
 use Rattle.line_system.specs.declared.system.Answer.{Answer}
-use Rattle.line_system.specs.declared.system.Answer.TheVariants.{Unbuilt, TooMany, Premise, Goes}
+use Rattle.line_system.specs.declared.system.Answer.TheVariants.{Unbuilt, TooMany, Full, Premise, Goes}
 
+-- what an event leads to that text line n tells
+abbrev pub comes : ℕ → History → Event → Came
+comes n h e = event_comes n h.line h.events (story_of h.line h.events) e
+
+-- how an answer to text line n ends the document, if it does
+abbrev pub ending_at : ℕ → Answer → Option Ending
+ending_at n Unbuilt = Some (ends.Unbuilt n)
+ending_at n TooMany = Some ends.Trains
+ending_at n Full = Some ends.Events
+ending_at n (Premise p) = Some (ends.Premise n p)
+ending_at n Goes = None
+
+-- an answer that ends the document as the event does, and the system and the outcome lines that it leads to
+pub record Leads (h : History) (n : ℕ) (x : Came) (a : Answer) (after : History) (old new : List Outcome) : Type 0 where
+  pub ending : ending_at n a ≡ x.ending
+  pub system : after ≡ record { line = h.line; events = x.went.events }
+  pub lines : new ≡ old ++ x.went.lines
+
+-- whichever text line tells the event
+abbrev pub Answered : History → Event → Answer → History → List Outcome → List Outcome → Type 0
+Answered h e a after old new = (n : ℕ) → Leads h n (comes n h e) a after old new
+
+-- an event that is not built is refused, and changes nothing
 abbrev pub Answers : History → Event → Answer → History → List Outcome → List Outcome → Type 0
 Answers h e Unbuilt after old new = (built h.line (story_of h.line h.events) e ≡ false) × (after ≡ h) × (new ≡ old)
-Answers h e TooMany after old new = (built h.line (story_of h.line h.events) e ≡ true)
-    × (too_many (story_of h.line h.events) e ≡ true)
-    × (after ≡ h)
-    × (new ≡ old)
-Answers h e (Premise p) after old new = (built h.line (story_of h.line h.events) e ≡ true)
-    × (too_many (story_of h.line h.events) e ≡ false)
-    × (p ≡ premise_of h.line (story_of h.line h.events) e)
-    × (0 < p)
-    × (after ≡ h)
-    × (new ≡ old)
-Answers h e Goes after old new = (built h.line (story_of h.line h.events) e ≡ true)
-    × (too_many (story_of h.line h.events) e ≡ false)
-    × (premise_of h.line (story_of h.line h.events) e ≡ 0)
-    × (after ≡ record { line = h.line; events = (went h.line h.events (stands_for h.line (story_of h.line h.events) e)).events })
-    × (new ≡ old ++ (went h.line h.events (stands_for h.line (story_of h.line h.events) e)).lines)
+Answers h e a after old new = (built h.line (story_of h.line h.events) e ≡ true) × Answered h e a after old new

@@ -2,7 +2,7 @@
 ghost use Rattle.std.specs.Prelude.{◌≡◌, ◌<◌, ◌≤◌, ◌+◌, ◌++◌, ◌-◌, ◌&&◌, [], true, not, max, length, nat_eq, nat_lt, nat_le, is_some, slice_get, vec_len, vec_capacity, IfOk, OnOk};
 ghost use Rattle.std.specs.List.{list_all};
 ghost use Rattle.definitions.specs.Track.{ranged, is_actor};
-ghost use Rattle.definitions.specs.Premises.{on_line, ascending};
+ghost use Rattle.definitions.specs.Premises.{on_line, ascending, is_equipped};
 ghost use Rattle.definitions.specs.Story.{to_actor};
 ghost use Rattle.definitions.specs.Steps.{nothing};
 ghost use Rattle.plain_state.specs.World.{find_train, world_event_effect, world_event_next};
@@ -12,7 +12,7 @@ ghost use Rattle.world_sim.specs.World.{StepFits, IsBuilt, IsWorldOn};
 ghost use Rattle.zone_state.specs.Zone.{IsZoneOn, InRange};
 ghost use Rattle.line_system.specs.State.{plain, parts, link_between, links_of, message_of, world_moved, parts_taken, parts_next, taken, taken_start, taken_with, taken_behind, HasRoom, TakenInRange, EventInRange, due_of};
 
-use definitions::event::Event;
+use definitions::event::{Event, Kind};
 use definitions::message::Msg;
 use line_map::Line;
 use msg_codec::Outs;
@@ -40,6 +40,15 @@ fn is_link(line: &Line, to: u8, from: u8) -> bool
     ensures { result ≡ (not (nat_eq to from) && (is_actor line.now to && is_actor line.now from)) }
 {
     to != from && (is_actor(line, to) && is_actor(line, from))
+}
+
+fn is_equipped(kind: Kind) -> bool
+    ensures { result ≡ is_equipped kind }
+{
+    match kind {
+        Kind::Equipped => true,
+        Kind::Unequipped => false,
+    }
 }
 
 fn is_on_line(line: &Line, step: DirSeg) -> bool
@@ -169,10 +178,11 @@ impl State {
         )
     }
 
-    fn is_declared(&self, train: TrainId) -> bool
+    /// Whether a train is declared.
+    pub fn is_declared(&self, train: TrainId) -> bool
         ensures { result ≡ is_some (find_train train.0 (plain self.now).world.trains) }
     {
-        self.world.find(train).is_some()
+        self.world.is_declared(train)
     }
 
     fn are_declared(&self, moves: &[(TrainId, u32)]) -> bool
@@ -186,11 +196,12 @@ impl State {
         ensures { result ≡ plain_built line.now (plain self.now) event.now }
     {
         match event {
-            Event::Train(train, length, error, speed, _) => {
+            Event::Train(train, length, error, speed, kind) => {
                 is_ranged(1, 65_535, u32::from(train.0))
                     && (is_ranged(1, 1_000_000, *length)
                         && (*error < *length
-                            && (is_ranged(1, 60_000, *speed) && !self.is_declared(*train))))
+                            && (is_ranged(1, 60_000, *speed)
+                                && (!self.is_declared(*train) && is_equipped(*kind)))))
             }
             Event::Entry(train, step) => self.is_declared(*train) && line.begins_at_portal(*step),
             Event::Enter(train) => self.is_declared(*train),
@@ -210,6 +221,7 @@ impl State {
             }
             Event::Take(to, from, _) => is_link(line, *to, *from),
             Event::Deliver(to) => is_actor(line, *to),
+            _ => false,
         }
     }
 

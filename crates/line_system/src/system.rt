@@ -1,24 +1,27 @@
 //! The system of a line: the history of its script, and what that leaves.
-ghost use Rattle.std.specs.Prelude.{◌≡◌, ◌+◌, ◌-◌, ◌<◌, ◌≤◌, ◌++◌, ◌∷◌, [], true, false, count_by, is_some, length, reverse, vec_len, vec_capacity, IfOk, IfSome, OnErr, OnOk};
+ghost use Rattle.std.specs.Prelude.{◌≡◌, ◌+◌, ◌-◌, ◌<◌, ◌≤◌, ◌++◌, ◌∷◌, [], true, false, count_by, is_some, length, nat_lt, reverse, vec_len, vec_capacity, IfOk, IfSome, OnErr, OnOk};
 ghost use Rattle.definitions.specs.Rules.{is_line, is_any_zone};
 ghost use Rattle.definitions.specs.Premises.{built, too_many, premise_of};
 ghost use Rattle.definitions.specs.Track.{is_actor, has_zone};
 ghost use Rattle.definitions.specs.Steps.{effects, story_of, takes_from, deliveries};
-ghost use Rattle.definitions.specs.Trace.{went, stands_for};
+ghost use Rattle.definitions.specs.Trace.{stands_for, event_limit};
+ghost use Rattle.definitions.specs.World.{trains};
+ghost use Rattle.definitions.specs.EventFields.{has_train};
 ghost use Rattle.definitions.specs.Zones.{zone_id};
 ghost use Rattle.line_system.specs.History.{History};
 ghost use Rattle.line_system.specs.State.{parts, taken, HasRoom};
-ghost use Rattle.line_system.specs.System.{Answers};
+ghost use Rattle.line_system.specs.System.{Answered, Answers};
 ghost use Rattle.line_system.specs.Shows.{ShowsNotions, ShowsWorld};
 
 use crate::state::State;
 use definitions::event::Event;
 use definitions::outcome::Outcome;
+use definitions::trains::DeclaredTrains;
 use line_map::Line;
 use msg_codec::Outs;
 use std::alloc::{AllocError, Global};
 use std::marker::Model;
-use track_points::ZoneId;
+use track_points::{TrainId, ZoneId};
 use world_sim::World;
 use zone_state::Zone;
 
@@ -63,14 +66,16 @@ pub enum Answer {
     Unbuilt,
     /// It declares a train beyond the 256th. The script ends.
     TooMany,
+    /// It is beyond the limit on events, or one of its takes is: the system has the takes before. The script ends.
+    Full,
     /// It breaks the premise of this number, the least of those that it breaks. The script ends.
     Premise(u8),
     /// It goes. The system has it in its history, a delivery as its takes.
     Goes,
 }
 
-/// A history never grows to this: its events would take 200 GB. It is a want of memory.
-const MOST_EVENTS: usize = 100_000_000;
+/// The most events that a history may have.
+const EVENT_LIMIT: usize = 200_000;
 
 /// Reserves room for one event more and for the messages of its step. It changes nothing else.
 fn make_room(events: &mut Vec<Event>, state: &mut State) -> Result<(), AllocError>
@@ -157,18 +162,30 @@ impl System {
         self.state.premise(&self.line, event)
     }
 
+    /// How many further events there is room for.
+    fn room(&self) -> usize
+        ensures { result ≡ event_limit - length self.now.events }
+    {
+        EVENT_LIMIT.saturating_sub(self.events.len())
+    }
+
+    /// Whether so many further events pass the limit.
+    fn is_past_limit(&self, more: usize) -> bool
+        ensures { result ≡ nat_lt event_limit (length self.now.events + more) }
+    {
+        self.events.len() > EVENT_LIMIT || more > EVENT_LIMIT - self.events.len()
+    }
+
     /// Puts an event that goes and is no delivery into the history; `outs` has what it gives. Room is made first.
     fn step(&mut self, event: &Event, outs: &mut Outs) -> Result<(), AllocError>
         requires built { built self.old.line (story_of self.old.line self.old.events) event.now ≡ true }
         requires within { too_many (story_of self.old.line self.old.events) event.now ≡ false }
         requires kept { premise_of self.old.line (story_of self.old.line self.old.events) event.now ≡ 0 }
+        requires few { length self.old.events < event_limit }
         ensures history { OnOk result (self.new ≡ record { line = self.old.line; events = event.now ∷ self.old.events }) }
         ensures lines { OnOk result (outs.new.lines ≡ (effects self.old.line (story_of self.old.line self.old.events) event.now).lines) }
         ensures stays { OnErr result (self.new ≡ self.old) }
     {
-        if self.events.len() >= MOST_EVENTS {
-            return Err(AllocError);
-        }
         make_room(&mut self.events, &mut self.state)?;
         outs.clear();
         self.state.step(&self.line, event, outs);
@@ -186,6 +203,7 @@ impl System {
         requires built { built self.old.line (story_of self.old.line self.old.events) event.now ≡ true }
         requires within { too_many (story_of self.old.line self.old.events) event.now ≡ false }
         requires kept { premise_of self.old.line (story_of self.old.line self.old.events) event.now ≡ 0 }
+        requires few { length self.old.events < event_limit }
         ensures history { OnOk result (self.new ≡ record { line = self.old.line; events = event.now ∷ self.old.events }) }
         ensures lines { OnOk result (lines.new.items ≡ lines.old.items ++ (effects self.old.line (story_of self.old.line self.old.events) event.now).lines) }
     {
@@ -197,56 +215,76 @@ impl System {
     /// What is due to an actor of the line: its sender, the greatest ordinal that was taken, and how many were sent.
     fn due(&self, to: u8) -> (u8, usize, usize)
         requires { is_actor self.now.line to ≡ true }
-        ensures { deliveries self.now.line (story_of self.now.line self.now.events) to ≡ takes_from to result.0 (result.1 + 1) (result.2 - result.1) }
+        ensures takes { deliveries self.now.line (story_of self.now.line self.now.events) to ≡ takes_from to result.0 (result.1 + 1) (result.2 - result.1) }
+        ensures few { result.2 ≤ length self.now.events }
     {
         self.state.due(to)
     }
 
-    /// A delivery to an actor of the line: the takes that it stands for, one after the other.
+    /// A delivery to an actor of the line: the takes that it stands for, one after the other, as far as there is room.
     fn deliver(
         &mut self,
         to: u8,
         outs: &mut Outs,
         lines: &mut Vec<Outcome>,
-    ) -> Result<(), AllocError>
+    ) -> Result<Answer, AllocError>
         requires { is_actor self.old.line to ≡ true }
-        ensures history { OnOk result (self.new ≡ record { line = self.old.line; events = (went self.old.line self.old.events (deliveries self.old.line (story_of self.old.line self.old.events) to)).events }) }
-        ensures lines { OnOk result (lines.new.items ≡ lines.old.items ++ (went self.old.line self.old.events (deliveries self.old.line (story_of self.old.line self.old.events) to)).lines) }
+        ensures { IfOk result (λ a. Answered self.old (Event.Deliver to) a self.new lines.old.items lines.new.items) }
     {
         let (from, taken, sent) = self.due(to);
-        if sent >= MOST_EVENTS {
-            return Err(AllocError);
-        }
-        for number in taken..sent {
+        let due = sent.saturating_sub(taken);
+        let count = due.min(self.room());
+        let full = self.is_past_limit(due);
+        for number in taken..taken + count {
             let take = Event::Take(to, from, number as u32 + 1);
             self.go(&take, outs, lines)?;
         }
-        Ok(())
+        Ok(if full { Answer::Full } else { Answer::Goes })
     }
 
-    /// An event that goes, a delivery as the takes that it stands for. Its outcome lines are added to `lines`; `outs` is room
-    /// for what one step gives.
+    /// An event that is built, within the limit on trains, and no delivery.
+    fn go_alone(
+        &mut self,
+        event: &Event,
+        outs: &mut Outs,
+        lines: &mut Vec<Outcome>,
+    ) -> Result<Answer, AllocError>
+        requires built { built self.old.line (story_of self.old.line self.old.events) event.now ≡ true }
+        requires within { too_many (story_of self.old.line self.old.events) event.now ≡ false }
+        requires alone { stands_for self.old.line (story_of self.old.line self.old.events) event.now ≡ event.now ∷ [] }
+        ensures { IfOk result (λ a. Answered self.old event.now a self.new lines.old.items lines.new.items) }
+    {
+        if self.is_past_limit(1) {
+            return Ok(Answer::Full);
+        }
+        let premise = self.premise(event);
+        if premise != 0 {
+            return Ok(Answer::Premise(premise));
+        }
+        self.go(event, outs, lines)?;
+        Ok(Answer::Goes)
+    }
+
+    /// An event that is built and within the limit on trains, a delivery as the takes that it stands for.
     fn go_on(
         &mut self,
         event: &Event,
         outs: &mut Outs,
         lines: &mut Vec<Outcome>,
-    ) -> Result<(), AllocError>
+    ) -> Result<Answer, AllocError>
         requires built { built self.old.line (story_of self.old.line self.old.events) event.now ≡ true }
         requires within { too_many (story_of self.old.line self.old.events) event.now ≡ false }
-        requires kept { premise_of self.old.line (story_of self.old.line self.old.events) event.now ≡ 0 }
-        ensures history { OnOk result (self.new ≡ record { line = self.old.line; events = (went self.old.line self.old.events (stands_for self.old.line (story_of self.old.line self.old.events) event.now)).events }) }
-        ensures lines { OnOk result (lines.new.items ≡ lines.old.items ++ (went self.old.line self.old.events (stands_for self.old.line (story_of self.old.line self.old.events) event.now)).lines) }
+        ensures { IfOk result (λ a. Answered self.old event.now a self.new lines.old.items lines.new.items) }
     {
         match event {
             Event::Deliver(to) => self.deliver(*to, outs, lines),
-            _ => self.go(event, outs, lines),
+            _ => self.go_alone(event, outs, lines),
         }
     }
 
-    /// Answers an event. Its outcome lines are added to `lines`; a refused event adds none, and leaves the system as it was.
-    /// `outs` is room for what one step gives. Where there is no memory for it, the system is to be given up: a delivery may
-    /// have made some of its takes.
+    /// Answers an event. Its outcome lines are added to `lines`; a refused event adds none, and leaves the system as it was,
+    /// but for the takes of a delivery before the limit on events. `outs` is room for what one step gives. Where there is no
+    /// memory for it, the system is to be given up: a delivery may have made some of its takes.
     pub fn read(
         &mut self,
         event: &Event,
@@ -261,11 +299,15 @@ impl System {
         if self.is_too_many(event) {
             return Ok(Answer::TooMany);
         }
-        let premise = self.premise(event);
-        if premise != 0 {
-            return Ok(Answer::Premise(premise));
-        }
-        self.go_on(event, outs, lines)?;
-        Ok(Answer::Goes)
+        self.go_on(event, outs, lines)
+    }
+}
+
+impl DeclaredTrains for System {
+    ghost known = { λ h. trains (story_of h.line h.events) };
+
+    /// By the world's table, in constant time.
+    fn has(&self, train: TrainId) -> bool {
+        self.state.is_declared(train)
     }
 }

@@ -1,19 +1,18 @@
 -- What reading by the table of items tells of items.
-use Rattle.std.proofs.Common.{◌≡◌, ℕ, ◌+◌, ◌-◌, ◌≤◌, List, ◌++◌, length, take, Some, None, Result, Ok, Err, inl, refl, sym, ap, subst, ◌∙◌, arith, length-append}
-use Rattle.std.proofs.lemmas.List.{take_all, length-take}
+use Rattle.std.proofs.Common.{◌≡◌, ℕ, ◌≤◌, List, length, Some, None, Result, Ok, Err, refl, sym, ap, subst, ◌∙◌}
 use Rattle.text_forms.specs.declared.row.Row.{Row}
 use Rattle.text_forms.specs.Forms.{Form, Says, IsText}
-use Rattle.text_forms.specs.Language.{Continues, IsRefused, most_bytes}
-use Rattle.text_forms.specs.Reading.{line_at}
+use Rattle.text_forms.specs.Language.{IsRefused, most_bytes}
 use Rattle.text_forms.specs.Rows.{forms}
 use Rattle.form_codec.specs.declared.fault.TextFault.{TextFault}
-use Rattle.form_codec.proofs.Columns.{refused_one, refused_not, refused_same, refused_front}
+use Rattle.form_codec.proofs.Columns.{refused_one, refused_not, refused_same}
 use Rattle.form_codec.proofs.Short_texts.{says_short}
-use Rattle.form_codec.proofs.Tables.{line_takes, line_again, line_column, says_one}
+use Rattle.form_codec.proofs.Tables.{says_one}
+use Rattle.form_codec.proofs.Telling.{form_taken, form_refused}
 use Rattle.form_codec.proofs.Texts.{spelling_one as text_one}
 use Rattle.definitions.specs.declared.line_item.LineItem.{LineItem}
 use Rattle.definitions.specs.ItemText.{item_forms, item_place, item_values, SaysItem, IsItem}
-use Rattle.definitions.specs.ItemReading.{item_of, item_from, item_at}
+use Rattle.definitions.specs.ItemReading.{item_of, item_at}
 use Rattle.line_text.proofs.Good_table.{item_table, item_short}
 use Rattle.line_text.proofs.Item_values.{item_said, item_again, item_only, to_item, from_item}
 
@@ -68,31 +67,10 @@ item_one x y text h k = some_only (item_place x) (item_values x) text x y (sym (
 
 -- reading on lists answers what the grammar tells
 
--- the bytes that tell
-abbrev front : List ℕ → List ℕ
-front text = take (most_bytes + 1) text
-
 pub item_taken : (x : LineItem) (text : List ℕ) → SaysItem x text → item_at text ≡ Ok x
 unfolding item_at
-item_taken x text s =
-    let all : front text ≡ text = take_all (most_bytes + 1) text (omega (arith, item_length x text s)) in
-    rw (all, line_again item_forms text (item_place x) (item_values x) item_table s, item_again x) refl
-
-continued_short : (u : List ℕ) (c : ℕ) → c ≤ length u → Continues (IsText item_forms) (take c u) → c ≤ most_bytes
-continued_short u c le live =
-    let x = live.1 in
-    omega (arith, says_short item_forms x.form x.values (take c u ++ live.0) item_short x.says, length-append (take c u) live.0, length-take c u)
-
-by_reading : (text : List ℕ) (k : ℕ) → IsRefused IsItem text k → (r : Result (ℕ × List ℕ) ℕ) → line_at item_forms (front text) ≡ r → item_from (length (front text)) r ≡ Err k
-by_reading text k h (Ok x) e =
-    let m = item_said x.0 x.1 (front text) (line_takes item_forms (front text) x.0 x.1 item_table e) in
-    absurd (item_not m.item (front text) k m.says (refused_front IsItem text k h))
-by_reading text k h (Err left) e =
-    let c = line_column item_forms (front text) left item_table e in
-    let short = continued_short (front text) (length (front text) - left + 1 - 1) (omega arith) c.before in
-    let r : IsRefused (IsText item_forms) (front text) (length (front text) - left + 1) = inl (omega (arith, short), c) in
-    ap (λ (n : ℕ). Err n) (refused_one IsItem (front text) (length (front text) - left + 1) k (refused_same (IsText item_forms) IsItem (front text) (length (front text) - left + 1) to_item from_item r) (refused_front IsItem text k h))
+item_taken x text s = rw (form_taken item_forms text (item_values x) (item_place x) item_table s (item_length x text s), item_again x) refl
 
 pub item_column : (text : List ℕ) (k : ℕ) → IsRefused IsItem text k → item_at text ≡ Err k
 unfolding item_at
-item_column text k h = by_reading text k h (line_at item_forms (front text)) refl
+item_column text k h = rw (form_refused item_forms text k item_table (refused_same IsItem (IsText item_forms) text k from_item to_item h)) refl

@@ -1,9 +1,22 @@
-//! Messages, events and outcome lines, and the room for what one step gives.
+//! Messages as frames of bytes, and the room for what one step gives.
+//!
+//! A frame is the one spelling of a message as bytes: a version, a kind, and the fields of the kind, numbers with their
+//! greatest byte first. `specs/` has the fields with their widths and ranges, and what reading bytes from the left gives.
 #![tactic(auto)]
 
+pub mod fault;
+pub mod fields;
+pub mod flags;
 pub mod outs;
+pub mod reading;
+#[cfg(test)]
+mod tests;
+pub mod writing;
 
 pub use definitions::event::Event;
-pub use definitions::message::Msg;
-pub use definitions::outcome::Outcome;
+pub use definitions::message::{Hand, Msg, Order, SeenWhat};
+pub use definitions::outcome::{FrameFault, Outcome};
+pub use fault::Unread;
 pub use outs::Outs;
+pub use reading::decode;
+pub use writing::encode;

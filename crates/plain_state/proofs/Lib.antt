@@ -1,1 +1,1 @@
-pub mod Trains
+pub mod Found_changed

@@ -34,11 +34,11 @@ use Rattle.event_laws.proofs.Notions.{number_most}
 use Rattle.event_laws.proofs.Issued.{issued_all}
 use Rattle.way_laws.proofs.Lines.{portal_on_line}
 use Rattle.invariant_laws.proofs.One_route.{numbered_controls}
-use Rattle.way_laws.proofs.Between_places.{between_mark, between_steps}
+use Rattle.way_laws.proofs.Between_points.{between_mark, between_steps}
 use Rattle.invariant_laws.proofs.Invariant.{path_fits, AuthorityIs, FirstIs, AuthIs, AuthTrue, RequestTrue, Invariant}
-use Rattle.plain_state.proofs.Trains.{all_found}
-use Rattle.refinement_laws.proofs.One_zone.{the_zone}
-use Rattle.invariant_laws.proofs.One_zone.{zone_is}
+use Rattle.plain_state.proofs.Found_changed.{all_found}
+use Rattle.refinement_laws.proofs.The_zone.{the_zone}
+use Rattle.invariant_laws.proofs.Zone_only.{zone_is}
 use Rattle.refinement_laws.proofs.Way_of.{way_of}
 use Rattle.refinement_laws.proofs.Head_on.{HeadOn, head_on, steps_few}
 

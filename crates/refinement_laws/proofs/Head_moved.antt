@@ -14,10 +14,10 @@ use Rattle.definitions.specs.Ways.{front_at}
 use Rattle.definitions.specs.Premises.{on_line}
 use Rattle.plain_state.specs.declared.Head.{Head}
 use Rattle.plain_state.specs.World.{moved_on}
-use Rattle.way_laws.proofs.Cut.{cut_first, cut_some, cut_end, total_append, last_behind, last_after, offset_above}
-use Rattle.way_laws.proofs.Cuts.{cut_again, before_last}
-use Rattle.way_laws.proofs.Track.{is_long, all_long, long_steps, long_total, track_some}
-use Rattle.way_laws.proofs.Route.{journey_any}
+use Rattle.way_laws.proofs.Cut_front.{cut_first, cut_some, cut_end, total_append, last_behind, last_after, offset_above}
+use Rattle.way_laws.proofs.Cut_cut.{cut_again, before_last}
+use Rattle.way_laws.proofs.Track_front.{is_long, all_long, long_steps, long_total, track_some}
+use Rattle.way_laws.proofs.Journey_cut.{journey_any}
 
 -- where a head is at a place of some steps, the last of which it is on
 abbrev pub head_at : Lengths → List DirSeg → ℕ → Option Head

@@ -16,8 +16,8 @@ use Rattle.definitions.specs.World.{Authority, route, authority_end, entered, he
 use Rattle.definitions.specs.Control.{controls}
 use Rattle.definitions.specs.Longest.{longest_end, longest_route}
 use Rattle.definitions.specs.Zones.{zone_id}
-use Rattle.way_laws.proofs.Cut.{cut_front, total_append}
-use Rattle.way_laws.proofs.Cuts.{cut_cut, cut_longer}
+use Rattle.way_laws.proofs.Cut_front.{cut_front, total_append}
+use Rattle.way_laws.proofs.Cut_cut.{cut_cut, cut_longer}
 use Rattle.invariant_laws.proofs.Invariant.{step_begin, AuthorityIs, Invariant}
 use Rattle.invariant_laws.proofs.One_route.{OneRoute, one_route}
 use Rattle.front_laws.proofs.Head_place.{place_on, head_place, head_on_track}

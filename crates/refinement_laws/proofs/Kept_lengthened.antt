@@ -19,13 +19,13 @@ use Rattle.plain_state.specs.declared.Controlled.{Controlled}
 use Rattle.plain_state.specs.Zone.{lengthened}
 use Rattle.definitions.specs.Zones.{zone_id}
 use Rattle.plain_state.specs.Refinement.{zone_train}
-use Rattle.way_laws.proofs.Cut.{cut_front, cut_some, cut_total}
-use Rattle.way_laws.proofs.Cuts.{cut_again, offset_more}
-use Rattle.way_laws.proofs.Between_places.{begin_of}
-use Rattle.way_laws.proofs.Between_moved.{between_cut, begin_cut, between_longer}
+use Rattle.way_laws.proofs.Cut_front.{cut_front, cut_some, cut_total}
+use Rattle.way_laws.proofs.Cut_cut.{cut_again, offset_more}
+use Rattle.way_laws.proofs.Between_points.{begin_of}
+use Rattle.way_laws.proofs.Between_longer.{between_cut, begin_cut, between_longer}
 use Rattle.invariant_laws.proofs.Invariant.{AuthorityIs, Invariant}
 use Rattle.invariant_laws.proofs.One_route.{kept_cut, longest_on}
-use Rattle.refinement_laws.proofs.Kept_train.{kept_train, zone_kept}
+use Rattle.refinement_laws.proofs.Zone_kept.{kept_train, zone_kept}
 
 offset_again : (len : Lengths) (steps : List DirSeg) (p : ℕ) → 0 < length steps → p ≤ total len steps → offset_to len (steps_to len steps p) p ≡ offset_to len steps p
 offset_again len steps p some h =

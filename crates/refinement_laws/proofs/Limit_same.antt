@@ -14,10 +14,10 @@ use Rattle.definitions.specs.World.{first_entry, enters, entered, moved, head, j
 use Rattle.definitions.specs.Longest.{longest_route}
 use Rattle.plain_state.specs.World.{moved_on}
 use Rattle.plain_state.specs.Refinement.{head_of}
-use Rattle.way_laws.proofs.Cut.{cut_all}
-use Rattle.event_laws.proofs.Stays.{entered_stays}
+use Rattle.way_laws.proofs.Cut_front.{cut_all}
+use Rattle.event_laws.proofs.Facts_stay.{entered_stays}
 use Rattle.motion_laws.proofs.Motion.{Motion, head_next}
-use Rattle.journey_laws.proofs.Journey.{journey_ends, journey_led}
+use Rattle.journey_laws.proofs.Journey_track.{journey_ends, journey_led}
 use Rattle.invariant_laws.proofs.Invariant.{end_read, Invariant}
 use Rattle.invariant_laws.proofs.One_route.{on_controls}
 use Rattle.invariant_laws.proofs.First_steps.{off_journey, controlled_some, controlled_reaches, controlled_first}

@@ -20,28 +20,28 @@ use Rattle.definitions.specs.Longest.{longest_end, longest_route}
 use Rattle.definitions.specs.Fronts.{possible_front, is_used}
 use Rattle.definitions.specs.Steps.{Effect, again}
 use Rattle.definitions.specs.Safe.{IsLineOfOneZone}
-use Rattle.event_laws.proofs.Grants.{quiet_grants}
+use Rattle.event_laws.proofs.Grant_takes.{quiet_grants}
 use Rattle.plain_state.specs.declared.Controlled.{Controlled}
 use Rattle.plain_state.specs.Zone.{find_controlled, grown_train}
 use Rattle.definitions.specs.Zones.{zone_id}
 use Rattle.plain_state.specs.Plain.{Plain}
 use Rattle.plain_state.specs.Refinement.{zone_train, ids, Distinct, Refines}
 use Rattle.event_laws.proofs.Issued.{AllIn, AllIssued, NoAuth}
-use Rattle.way_laws.proofs.Between_places.{between_end}
-use Rattle.event_laws.proofs.Controls.{controls_same}
-use Rattle.event_laws.proofs.Still.{journey_still}
+use Rattle.way_laws.proofs.Between_points.{between_end}
+use Rattle.event_laws.proofs.Controls_same.{controls_same}
+use Rattle.event_laws.proofs.Still_world.{journey_still}
 use Rattle.invariant_laws.proofs.Invariant.{end_read, AuthIs, Invariant}
 use Rattle.invariant_laws.proofs.One_route.{last_end}
-use Rattle.front_laws.proofs.Account_moves.{answers, counted_unanswered}
-use Rattle.event_laws.proofs.Last_issued.{greatest_none}
-use Rattle.plain_state.proofs.Trains.{mapped}
-use Rattle.refinement_laws.proofs.Zone_values.{Grown}
+use Rattle.front_laws.proofs.Taken_counts.{answers, counted_unanswered}
+use Rattle.event_laws.proofs.Last_quiet.{greatest_none}
+use Rattle.plain_state.proofs.Found_changed.{mapped}
+use Rattle.refinement_laws.proofs.Way_now.{Grown}
 use Rattle.refinement_laws.proofs.Way_of.{way_of, way_before}
-use Rattle.event_laws.proofs.Known_trains.{known_still}
+use Rattle.event_laws.proofs.Known_more.{known_still}
 use Rattle.refinement_laws.proofs.Acts_on_sent.{way_steps}
 use Rattle.refinement_laws.proofs.World_controls.{end_same}
 use Rattle.refinement_laws.proofs.Zone_moves.{zone_made, zone_heads, ZoneMoves}
-use Rattle.refinement_laws.proofs.Zone_behind.{steps_same, controlled_still, zone_still, zone_silent}
+use Rattle.refinement_laws.proofs.Zone_still.{steps_same, controlled_still, zone_still, zone_silent}
 
 -- what is left where no train comes in, and the end of each stays where it was
 pub record Stays (line : Line) (s : Story) (x : Transition) : Type 0 where

@@ -15,8 +15,8 @@ use Rattle.invariant_laws.proofs.One_route.{kept_reach}
 use Rattle.invariant_laws.proofs.Invariant.{Invariant}
 use Rattle.front_laws.proofs.Head_place.{control_of}
 use Rattle.front_laws.proofs.Entry_fronts.{known_long}
-use Rattle.front_laws.proofs.Front_numbers.{least_rear_is, greatest_front_is}
-use Rattle.front_laws.proofs.Front_ends.{least_front_is}
+use Rattle.front_laws.proofs.Fronts_numbers.{least_rear_is, greatest_front_is}
+use Rattle.front_laws.proofs.Ends_narrowed.{least_front_is}
 use Rattle.front_laws.proofs.Way_begins.{way_begins}
 
 -- where the parts of the way lie

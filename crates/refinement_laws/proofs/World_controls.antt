@@ -11,7 +11,7 @@ use Rattle.definitions.specs.Zones.{zone_id}
 use Rattle.event_laws.proofs.Issued.{NoAuth}
 use Rattle.invariant_laws.proofs.Invariant.{Invariant}
 use Rattle.front_laws.proofs.Route_goes_on.{end_quiet}
-use Rattle.refinement_laws.proofs.One_zone.{zone_positive}
+use Rattle.refinement_laws.proofs.The_zone.{zone_positive}
 
 -- the longest authority ends where it did
 pub end_same : (line : Line) (t : ℕ) (x : Transition) (s : Story) → NoAuth t x.issued → (invariant : Invariant line t s) → (after : Invariant line t (x ∷ s)) → controls (zone_id line) t s ≡ true → controls (zone_id line) t (x ∷ s) ≡ true

@@ -16,11 +16,11 @@ use Rattle.definitions.specs.Zones.{zone_id}
 use Rattle.plain_state.specs.Plain.{Plain, posted, by_world as world_next}
 use Rattle.plain_state.specs.Refinement.{world_train, zone_train, ZoneRefines, Refines}
 use Rattle.event_laws.proofs.Notions.{entered_same}
-use Rattle.event_laws.proofs.Still.{StillWorld, head_same, facts_still, entry_still, authority_still, last_still, limit_still, sent_by, sent_else, journey_still}
+use Rattle.event_laws.proofs.Still_world.{StillWorld, head_same, facts_still, entry_still, authority_still, last_still, limit_still, sent_by, sent_else, journey_still}
 use Rattle.invariant_laws.proofs.Invariant.{Invariant}
-use Rattle.refinement_laws.proofs.One_zone.{the_zone, each_zone}
-use Rattle.event_laws.proofs.Last_issued.{last_quiet}
-use Rattle.refinement_laws.proofs.Shown.{fronts_are, holds_are}
+use Rattle.refinement_laws.proofs.The_zone.{the_zone, each_zone}
+use Rattle.event_laws.proofs.Last_quiet.{last_quiet}
+use Rattle.refinement_laws.proofs.Holds_are.{fronts_are, holds_are}
 use Rattle.event_laws.proofs.Issued.{NoAuth}
 use Rattle.refinement_laws.proofs.Zone_idle.{known_idle, now_still, zone_idle}
 

@@ -13,16 +13,16 @@ use Rattle.definitions.specs.Fronts.{report_time}
 use Rattle.definitions.specs.Safe.{IsLineOfOneZone}
 use Rattle.definitions.specs.Zones.{zone_id}
 use Rattle.plain_state.specs.Refinement.{zone_train_of, zone_train}
-use Rattle.event_laws.proofs.Controls.{controls_same, known_same, now_idle, report_idle}
-use Rattle.event_laws.proofs.Known_trains.{known_still}
+use Rattle.event_laws.proofs.Controls_same.{controls_same, known_same, now_idle, report_idle}
+use Rattle.event_laws.proofs.Known_more.{known_still}
 use Rattle.invariant_laws.proofs.Invariant.{Invariant}
-use Rattle.event_laws.proofs.Entries.{counted_else}
-use Rattle.front_laws.proofs.Front_ends.{ends_idle}
+use Rattle.event_laws.proofs.Account_next.{counted_else}
+use Rattle.front_laws.proofs.Ends_narrowed.{ends_idle}
 use Rattle.front_laws.proofs.Route_goes_on.{route_stays}
-use Rattle.event_laws.proofs.Last_issued.{last_quiet}
-use Rattle.refinement_laws.proofs.One_zone.{zone_positive}
-use Rattle.refinement_laws.proofs.Values.{no_way}
-use Rattle.refinement_laws.proofs.Kept_train.{kept_train, zone_kept, zone_behind}
+use Rattle.event_laws.proofs.Last_quiet.{last_quiet}
+use Rattle.refinement_laws.proofs.The_zone.{zone_positive}
+use Rattle.refinement_laws.proofs.Facts_is.{no_way}
+use Rattle.refinement_laws.proofs.Zone_kept.{kept_train, zone_kept, zone_behind}
 use Rattle.event_laws.proofs.Issued.{NoAuth}
 use Rattle.refinement_laws.proofs.World_controls.{end_same, world_controls}
 

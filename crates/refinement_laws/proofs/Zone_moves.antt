@@ -17,15 +17,15 @@ use Rattle.plain_state.specs.Zone.{PlainZone, find_controlled, hold_has, clock_a
 use Rattle.definitions.specs.Zones.{zone_id}
 use Rattle.plain_state.specs.Plain.{Plain, by_zone as zone_next}
 use Rattle.plain_state.specs.Refinement.{zone_train, ids, Distinct, ZoneRefines, Refines}
-use Rattle.event_laws.proofs.Still.{head_still, unasked_same, off_same, authorized_same, as_many, clock_still}
+use Rattle.event_laws.proofs.Still_world.{head_still, unasked_same, off_same, authorized_same, as_many, clock_still}
 use Rattle.invariant_laws.proofs.Invariant.{Invariant}
-use Rattle.event_laws.proofs.Controls.{now_acted}
-use Rattle.refinement_laws.proofs.One_zone.{the_zone, each_zone}
+use Rattle.event_laws.proofs.Controls_same.{now_acted}
+use Rattle.refinement_laws.proofs.The_zone.{the_zone, each_zone}
 use Rattle.refinement_laws.proofs.Way_of.{way_of}
-use Rattle.refinement_laws.proofs.Way_marks.{way_number}
-use Rattle.refinement_laws.proofs.Shown.{found_controls, found_kept, fronts_are, holds_are}
+use Rattle.refinement_laws.proofs.Mark_is.{way_number}
+use Rattle.refinement_laws.proofs.Holds_are.{found_controls, found_kept, fronts_are, holds_are}
 use Rattle.refinement_laws.proofs.World_moves.{world_same, posted_sent}
-use Rattle.refinement_laws.proofs.Auth_refined.{take_transition}
+use Rattle.refinement_laws.proofs.World_take_refined.{take_transition}
 
 -- the message that the zone takes from the world, and what it gives
 abbrev pub zone_made : ℕ → ℕ → Msg → Effect → Transition

@@ -1,3 +1,4 @@
+pub mod Known_more
 pub mod Stages
 pub mod Going
 pub mod Steady

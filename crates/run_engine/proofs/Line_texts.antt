@@ -3,7 +3,8 @@ use Rattle.std.proofs.Common.{◌≡◌, ℕ, ◌+◌, ◌<◌, List, [], ◌++�
 use Rattle.std.proofs.lemmas.List.{take_more, take-append-drop, flat_map_more}
 use Rattle.std.proofs.lemmas.Grind.{flat_map-append}
 use Rattle.definitions.specs.declared.outcome.Outcome.{Outcome}
-use Rattle.definitions.specs.Endings.{outcome_text, outcomes_text}
+use Rattle.definitions.specs.Endings.{outcomes_text}
+use Rattle.definitions.specs.OutcomeText.{outcome_text}
 
 pub lines_more : (xs : List Outcome) (i : ℕ) (d : Outcome) → i < length xs → outcomes_text (take i xs) ++ outcome_text (get_or xs i d) ≡ outcomes_text (take (i + 1) xs)
 lines_more xs i d h = flat_map_more outcome_text [] (take i xs) (get_or xs i d) ∙ ap outcomes_text (sym (take_more xs i d h))

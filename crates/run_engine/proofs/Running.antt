@@ -5,6 +5,7 @@ use Rattle.edge_io.specs.declared.stream.Got.TheVariants.{Bytes, End, Failed}
 use Rattle.edge_io.specs.Streams.{Gives, GivesTold}
 use Rattle.edge_io.specs.Reading.{WroteIs, WroteFront}
 use Rattle.edge_io.proofs.Wrote.{wrote_then, front_then, front_more, wrote_none}
+use Rattle.definitions.specs.declared.document.Command.{Command}
 use Rattle.definitions.specs.declared.document.Ending.{Ending}
 use Rattle.definitions.specs.declared.document.Ending.TheVariants as ends
 use Rattle.definitions.specs.Endings.{status_of}
@@ -124,6 +125,7 @@ gave_whole (ends.ScriptColumn n c) all before now e w = (ap status_of e, w)
 gave_whole (ends.Premise n p) all before now e w = (ap status_of e, w)
 gave_whole ends.Input all before now e w = (ap status_of e, w)
 gave_whole ends.Trains all before now e w = (ap status_of e, w)
+gave_whole ends.Events all before now e w = (ap status_of e, w)
 gave_whole (ends.Unbuilt n) all before now e w = (ap status_of e, w)
 
 gave_front : (cut : Cut) (all : Given) (before now : Option (List ℕ)) → WroteFront before now all.text → Gave (status_of_cut cut) all before now
@@ -131,25 +133,25 @@ gave_front cuts.Read all before now w = w
 gave_front cuts.Write all before now w = w
 gave_front cuts.Memory all before now w = w
 
-first_is : (first : Feed) (bytes : List ℕ) → first ≡ opened start → fed_gives first bytes ≡ trace bytes
-first_is first bytes e = ap (λ (f : Feed). fed_gives f bytes) e ∙ trace_fed bytes
+first_is : (c : Command) (first : Feed) (bytes : List ℕ) → first ≡ opened (start c) → fed_gives first bytes ≡ trace c bytes
+first_is c first bytes e = ap (λ (f : Feed). fed_gives f bytes) e ∙ trace_fed c bytes
 
-pub run_whole : (left : Option (List ℕ)) (first f : Feed) (e : Ending) (before mid now : Option (List ℕ)) → first ≡ opened start → Pumped left first f before mid (Ok tt) → WroteIs mid now (fed_gives f []).text → e ≡ (fed_gives f []).ending → Ran (status_of e) left before now
-run_whole None first f e before mid now is h w same = tt
-run_whole (Some all) first f e before mid now is h w same =
-    subst (λ (g : Given). Gave (status_of e) g before now) (first_is first all is)
+pub run_whole : (c : Command) (left : Option (List ℕ)) (first f : Feed) (e : Ending) (before mid now : Option (List ℕ)) → first ≡ opened (start c) → Pumped left first f before mid (Ok tt) → WroteIs mid now (fed_gives f []).text → e ≡ (fed_gives f []).ending → Ran c (status_of e) left before now
+run_whole c None first f e before mid now is h w same = tt
+run_whole c (Some all) first f e before mid now is h w same =
+    subst (λ (g : Given). Gave (status_of e) g before now) (first_is c first all is)
     (gave_whole e (fed_gives first all) before now (same ∙ ap (λ (g : Given). g.ending) h.is) (text_whole (fed_gives first all) (fed_gives f []) before mid now h w))
 
-pub run_front : (left : Option (List ℕ)) (first f : Feed) (cut : Cut) (before mid now : Option (List ℕ)) → first ≡ opened start → Pumped left first f before mid (Ok tt) → WroteFront mid now (fed_gives f []).text → Ran (status_of_cut cut) left before now
-run_front None first f cut before mid now is h w = tt
-run_front (Some all) first f cut before mid now is h w =
-    subst (λ (g : Given). Gave (status_of_cut cut) g before now) (first_is first all is)
+pub run_front : (c : Command) (left : Option (List ℕ)) (first f : Feed) (cut : Cut) (before mid now : Option (List ℕ)) → first ≡ opened (start c) → Pumped left first f before mid (Ok tt) → WroteFront mid now (fed_gives f []).text → Ran c (status_of_cut cut) left before now
+run_front c None first f cut before mid now is h w = tt
+run_front c (Some all) first f cut before mid now is h w =
+    subst (λ (g : Given). Gave (status_of_cut cut) g before now) (first_is c first all is)
     (gave_front cut (fed_gives first all) before now (text_front (fed_gives first all) (fed_gives f []) before mid now h w))
 
-pub run_cut : (left : Option (List ℕ)) (first f : Feed) (cut : Cut) (before now : Option (List ℕ)) → first ≡ opened start → Pumped left first f before now (Err cut) → Ran (status_of_cut cut) left before now
-run_cut None first f cut before now is h = tt
-run_cut (Some all) first f cut before now is h =
-    subst (λ (g : Given). Gave (status_of_cut cut) g before now) (first_is first all is) (gave_front cut (fed_gives first all) before now h)
+pub run_cut : (c : Command) (left : Option (List ℕ)) (first f : Feed) (cut : Cut) (before now : Option (List ℕ)) → first ≡ opened (start c) → Pumped left first f before now (Err cut) → Ran c (status_of_cut cut) left before now
+run_cut c None first f cut before now is h = tt
+run_cut c (Some all) first f cut before now is h =
+    subst (λ (g : Given). Gave (status_of_cut cut) g before now) (first_is c first all is) (gave_front cut (fed_gives first all) before now h)
 
 -- Only the source stops a pump so.
 
@@ -157,30 +159,31 @@ pub not_stopped : (fault : Fault) (P : Type 0) → AtStop (Err (cut_of fault)) P
 not_stopped faults.Write P = tt
 not_stopped faults.Memory P = tt
 
-pub fault_uncut : (fault : Fault) (left rest before now : Option (List ℕ)) → ReadCut (status_of_cut (cut_of fault)) left rest before now
-fault_uncut faults.Write left rest before now = tt
-fault_uncut faults.Memory left rest before now = tt
+pub fault_uncut : (c : Command) (fault : Fault) (left rest before now : Option (List ℕ)) → ReadCut c (status_of_cut (cut_of fault)) left rest before now
+fault_uncut c faults.Write left rest before now = tt
+fault_uncut c faults.Memory left rest before now = tt
 
-pub end_uncut : (e : Ending) (left rest before now : Option (List ℕ)) → ReadCut (status_of e) left rest before now
-end_uncut ends.Usage left rest before now = tt
-end_uncut (ends.Done n) left rest before now = tt
-end_uncut (ends.LineColumn n c) left rest before now = tt
-end_uncut (ends.Rule n r) left rest before now = tt
-end_uncut (ends.ScriptColumn n c) left rest before now = tt
-end_uncut (ends.Premise n p) left rest before now = tt
-end_uncut ends.Input left rest before now = tt
-end_uncut ends.Trains left rest before now = tt
-end_uncut (ends.Unbuilt n) left rest before now = tt
+pub end_uncut : (c : Command) (e : Ending) (left rest before now : Option (List ℕ)) → ReadCut c (status_of e) left rest before now
+end_uncut k ends.Usage left rest before now = tt
+end_uncut k (ends.Done n) left rest before now = tt
+end_uncut k (ends.LineColumn n c) left rest before now = tt
+end_uncut k (ends.Rule n r) left rest before now = tt
+end_uncut k (ends.ScriptColumn n c) left rest before now = tt
+end_uncut k (ends.Premise n p) left rest before now = tt
+end_uncut k ends.Input left rest before now = tt
+end_uncut k ends.Trains left rest before now = tt
+end_uncut k ends.Events left rest before now = tt
+end_uncut k (ends.Unbuilt n) left rest before now = tt
 
-pub run_stopped : (cut : Cut) (left rest : Option (List ℕ)) (first f : Feed) (before now : Option (List ℕ)) → first ≡ opened start → AtStop (Err cut) (Midway left rest first f before now) → ReadCut (status_of_cut cut) left rest before now
-run_stopped cuts.Write left rest first f before now is h = tt
-run_stopped cuts.Memory left rest first f before now is h = tt
-run_stopped cuts.Read None rest first f before now is h = tt
-run_stopped cuts.Read (Some all) None first f before now is h = h
-run_stopped cuts.Read (Some all) (Some rest) first f before now is h = record {
+pub run_stopped : (c : Command) (cut : Cut) (left rest : Option (List ℕ)) (first f : Feed) (before now : Option (List ℕ)) → first ≡ opened (start c) → AtStop (Err cut) (Midway left rest first f before now) → ReadCut c (status_of_cut cut) left rest before now
+run_stopped c cuts.Write left rest first f before now is h = tt
+run_stopped c cuts.Memory left rest first f before now is h = tt
+run_stopped c cuts.Read None rest first f before now is h = tt
+run_stopped c cuts.Read (Some all) None first f before now is h = h
+run_stopped c cuts.Read (Some all) (Some rest) first f before now is h = record {
   got = h.got;
   came = h.came;
-  wrote = subst (λ (t : List ℕ). WroteIs before now t) (ap (λ (x : Feed). feds_text x h.got) is ∙ so_far h.got) h.wrote;
+  wrote = subst (λ (t : List ℕ). WroteIs before now t) (ap (λ (x : Feed). feds_text x h.got) is ∙ so_far c h.got) h.wrote;
 }
 
 pub cut_causes : (cut : Cut) (r0 r w0 w : ℕ) → PumpCauses (Err cut) r0 r w0 w → Causes (status_of_cut cut) r0 r w0 w
@@ -197,9 +200,10 @@ end_causes (ends.ScriptColumn n c) r0 r w0 w h k = (h, k)
 end_causes (ends.Premise n x) r0 r w0 w h k = (h, k)
 end_causes ends.Input r0 r w0 w h k = (h, k)
 end_causes ends.Trains r0 r w0 w h k = (h, k)
+end_causes ends.Events r0 r w0 w h k = (h, k)
 end_causes (ends.Unbuilt n) r0 r w0 w h k = (h, k)
 
 -- nothing was begun
-pub run_nothing : (left w : Option (List ℕ)) → Ran status.Memory left w w
-run_nothing None w = tt
-run_nothing (Some all) w = front_none w (trace all).text
+pub run_nothing : (c : Command) (left w : Option (List ℕ)) → Ran c status.Memory left w w
+run_nothing c None w = tt
+run_nothing c (Some all) w = front_none w (trace c all).text

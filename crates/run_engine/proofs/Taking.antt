@@ -39,7 +39,7 @@ pub line_ahead : (f : Feed) (rest : List ℕ) (left at : ℕ) → is_over f.read
 line_ahead f rest left at on room h = leads_line rest f at on h.0 (omega (arith, h.1)) h.2 h.3
 
 -- none ends, and all is within the limit
-pub run_ahead : (f : Feed) (rest : List ℕ) (left : ℕ) → is_over f.reading.stage ≡ false → total f + left ≡ input_limit → LiesAhead left rest Run → Leads f (take (length rest) rest) (record { next = run_on f rest; lines = [] })
+pub run_ahead : (f : Feed) (rest : List ℕ) (left : ℕ) → is_over f.reading.stage ≡ false → total f + left ≡ input_limit → LiesAhead left rest Run → Leads f (take (length rest) rest) (record { next = run_on f rest; text = [] })
 run_ahead f rest left on room h = led f rest _ (leads_run rest f on (omega (arith, h.0)) h.1)
 
 -- one goes on past the limit

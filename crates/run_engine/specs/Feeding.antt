@@ -6,7 +6,7 @@ use Rattle.byte_feed.specs.Feed.{Feed}
 use Rattle.run_engine.specs.Shown.{reading_shown, done_early, Steady}
 
 abbrev pub feed_shown : code.Feed → Feed
-feed_shown f = record { reading = reading_shown f.reading; kept = f.begun.kept.items; size = f.begun.size }
+feed_shown f = record { reading = reading_shown f.teller.reading; kept = f.begun.kept.items; size = f.begun.size }
 
 -- the bytes taken stay within the limit
 pub record Within (f : Feed) : Type 0 where

@@ -1,3 +1,4 @@
+pub mod Reads
 pub mod Shown
 pub mod Faults
 pub mod Feeding

@@ -1,9 +1,10 @@
--- What a run gives.
+-- What a command gives.
 use Rattle.std.specs.Prelude.{◌≡◌, ◌≤◌, ℕ, List, [], ◌++◌, Option, Some, None, Result, Ok, Err}
 use Rattle.edge_io.specs.declared.status.Status.{Status}
 use Rattle.edge_io.specs.declared.status.Status.TheVariants as status
 use Rattle.edge_io.specs.Reading.{WroteIs, WroteFront}
 use Rattle.edge_io.specs.Causes.{Rose}
+use Rattle.definitions.specs.declared.document.Command.{Command}
 use Rattle.definitions.specs.Lines.{text_lines}
 use Rattle.definitions.specs.Trace.{Given, behind, start, trace}
 use Rattle.definitions.specs.Endings.{status_of}
@@ -65,22 +66,22 @@ Gave status.Memory g before now = WroteFront before now g.text
 Gave s g before now = (s ≡ status_of g.ending) × WroteIs before now g.text
 
 -- where the source tells its bytes: the trace of all of them
-abbrev pub Ran : Status → Option (List ℕ) → Option (List ℕ) → Option (List ℕ) → Type 0
-Ran s None before now = Unit {0}
-Ran s (Some bytes) before now = Gave s (trace bytes) before now
+abbrev pub Ran : Command → Status → Option (List ℕ) → Option (List ℕ) → Option (List ℕ) → Type 0
+Ran c s None before now = Unit {0}
+Ran c s (Some bytes) before now = Gave s (trace c bytes) before now
 
--- some bytes were read and the rest is left: exactly the outcome lines of the text lines among them that an LF ends were
--- written, and no last line
-pub record WroteWholeLines (bytes rest : List ℕ) (before now : Option (List ℕ)) : Type 0 where
+-- some bytes were read and the rest is left: exactly what the text lines among them give that an LF ends was written, and no
+-- last line
+pub record WroteWholeLines (c : Command) (bytes rest : List ℕ) (before now : Option (List ℕ)) : Type 0 where
   pub got : List ℕ
   pub came : got ++ rest ≡ bytes
-  pub wrote : WroteIs before now (lines_text start (whole_lines (text_lines got)))
+  pub wrote : WroteIs before now (lines_text (start c) (whole_lines (text_lines got)))
 
 -- at a fault of the source, where it tells what was left before and what is left now
-abbrev pub ReadCut : Status → Option (List ℕ) → Option (List ℕ) → Option (List ℕ) → Option (List ℕ) → Type 0
-ReadCut status.Read (Some bytes) (Some rest) before now = WroteWholeLines bytes rest before now
-ReadCut status.Read (Some bytes) None before now = ⊥
-ReadCut s left rest before now = Unit {0}
+abbrev pub ReadCut : Command → Status → Option (List ℕ) → Option (List ℕ) → Option (List ℕ) → Option (List ℕ) → Type 0
+ReadCut c status.Read (Some bytes) (Some rest) before now = WroteWholeLines c bytes rest before now
+ReadCut c status.Read (Some bytes) None before now = ⊥
+ReadCut c s left rest before now = Unit {0}
 
 -- a fault is answered only where that object's count rose, and nothing else lets a count rise; neither count falls
 abbrev pub Causes : Status → ℕ → ℕ → ℕ → ℕ → Type 0

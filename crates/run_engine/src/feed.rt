@@ -1,24 +1,21 @@
 //! A document as it comes, in pieces.
 ghost use Rattle.std.specs.Prelude.{◌≡◌, ◌+◌, ◌-◌, ◌<◌, ◌≤◌, ◌^◌, [], ◌++◌, IfOk, OnOk, length, take};
 ghost use Rattle.definitions.specs.Trace.{text_read, input_limit};
-ghost use Rattle.definitions.specs.Endings.{outcomes_text};
 ghost use Rattle.byte_feed.specs.Feed.{opened, kept_run, feds, feds_text, fed_gives, closed};
-ghost use Rattle.run_engine.specs.Shown.{reading_shown};
+ghost use Rattle.run_engine.specs.Shown.{reading_shown, Small};
 ghost use Rattle.run_engine.specs.Feeding.{feed_shown, Within};
 ghost use Rattle.run_engine.specs.Does.{Does};
 ghost use Rattle.run_engine.specs.Sends.{Sends};
 ghost use Rattle.run_engine.specs.Ahead.{LiesAhead, taken};
 
-use crate::output::{Fault, ROOM, flush, give_up, send_lines};
-use crate::stage::{INPUT_LIMIT, Reading};
+use crate::output::{Fault, ROOM, flush, give_up, send_read};
+use crate::stage::{INPUT_LIMIT, Reading, Room};
 use arrayvec::ArrayVec;
-use definitions::document::Ending;
-use definitions::outcome::Outcome;
-use document_text::write::write_ending;
+use definitions::document::{Command, Ending};
 use edge_io::buffer::TextBuffer;
 use edge_io::stream::Sink;
 use memchr::memchr;
-use msg_codec::Outs;
+use outcome_text::write_ending;
 use std::alloc::{AllocError, Global};
 
 /// The bytes of a text line that tell what it says: the longest that has a form, and one more.
@@ -97,32 +94,74 @@ fn look_ahead(rest: &[u8], left: u64) -> Ahead
     }
 }
 
-/// The whole text lines so far, the text line that has begun, and the room for what a step and a text line give, and for the
-/// text that is pending inside a call.
+/// The whole text lines so far, and room for what a text line gives and for the text that is pending inside a call.
+#[derive(Drop)]
+struct Teller {
+    reading: Reading,
+    room: Room,
+    pending: TextBuffer,
+}
+
+impl Teller {
+    /// No text line was read.
+    fn start(alloc: Global, command: Command) -> Result<Teller, AllocError>
+        ensures { IfOk result (λ t. reading_shown t.reading ≡ Rattle.definitions.specs.Trace.start command) }
+    {
+        Ok(Teller {
+            reading: Reading::start(alloc, command)?,
+            room: Room::new(alloc)?,
+            pending: TextBuffer::new(alloc, ROOM)?,
+        })
+    }
+
+    /// A text line of so many bytes.
+    fn tell<K: Sink>(
+        &mut self,
+        alloc: Global,
+        size: u64,
+        text: &[u8],
+        sink: &mut K,
+    ) -> Result<(), Fault>
+        requires small { Small (reading_shown self.old.reading) }
+        requires some { 1 ≤ size }
+        requires bound { size ≤ input_limit + 1 }
+        ensures sends { Sends K.written K.faults sink.old sink.new self.old.pending.text self.new.pending.text (text_read (reading_shown self.old.reading) size text.now).text result }
+        ensures next { OnOk result (reading_shown self.new.reading ≡ (text_read (reading_shown self.old.reading) size text.now).next) }
+        ensures small { OnOk result (Small (reading_shown self.new.reading)) }
+    {
+        self.room.lines.clear();
+        match self.reading.text(alloc, size, text, &mut self.room) {
+            Ok(reads) => send_read(
+                reads,
+                self.room.lines.as_slice(),
+                text,
+                &mut self.pending,
+                sink,
+            ),
+            Err(_) => Err(Fault::Memory),
+        }
+    }
+}
+
+/// The whole text lines so far, and the text line that has begun.
 #[derive(Drop)]
 pub struct Feed {
-    reading: Reading,
+    teller: Teller,
     begun: Begun,
-    outs: Outs,
-    lines: Vec<Outcome>,
-    pending: TextBuffer,
 }
 
 impl Feed {
     /// A document of which nothing has come.
-    pub fn start(alloc: Global) -> Result<Feed, AllocError>
-        ensures start { IfOk result (λ f. feed_shown f ≡ opened Rattle.definitions.specs.Trace.start) }
+    pub fn start(alloc: Global, command: Command) -> Result<Feed, AllocError>
+        ensures start { IfOk result (λ f. feed_shown f ≡ opened (Rattle.definitions.specs.Trace.start command)) }
         ensures within { IfOk result (λ f. Within (feed_shown f)) }
     {
         Ok(Feed {
-            reading: Reading::start(alloc)?,
+            teller: Teller::start(alloc, command)?,
             begun: Begun {
                 kept: ArrayVec::new(),
                 size: 0,
             },
-            outs: Outs::new(alloc)?,
-            lines: Vec::new(alloc),
-            pending: TextBuffer::new(alloc, ROOM)?,
         })
     }
 
@@ -130,68 +169,42 @@ impl Feed {
     pub fn is_over(&self) -> bool
         ensures { result ≡ Rattle.definitions.specs.Trace.is_over (feed_shown self.now).reading.stage }
     {
-        self.reading.is_over()
+        self.teller.reading.is_over()
     }
 
-    /// Reads a text line of so many bytes from a piece, where none had begun. Its outcome lines stand in `lines`.
-    fn read_run(&mut self, alloc: Global, size: u64, run: &[u8]) -> Result<(), AllocError>
+    /// A text line of so many bytes from a piece, where none had begun.
+    fn run_line<K: Sink>(
+        &mut self,
+        alloc: Global,
+        size: u64,
+        run: &[u8],
+        sink: &mut K,
+    ) -> Result<(), Fault>
         requires within { Within (feed_shown self.old) }
         requires some { 1 ≤ size }
         requires bound { size ≤ input_limit + 1 }
-        ensures lines { OnOk result (self.new.lines.items ≡ (text_read (reading_shown self.old.reading) size (take 4097 run.now)).lines) }
-        ensures next { OnOk result (feed_shown self.new ≡ opened (text_read (reading_shown self.old.reading) size (take 4097 run.now)).next) }
+        ensures sends { Sends K.written K.faults sink.old sink.new self.old.teller.pending.text self.new.teller.pending.text (text_read (feed_shown self.old).reading size (take 4097 run.now)).text result }
+        ensures next { OnOk result (feed_shown self.new ≡ opened (text_read (feed_shown self.old).reading size (take 4097 run.now)).next) }
         ensures within { OnOk result (Within (feed_shown self.new)) }
-        ensures same { self.new.pending ≡ self.old.pending }
     {
-        self.lines.clear();
         self.begun.clear();
-        self.reading.text(
-            alloc,
-            size,
-            front(run, TELLING),
-            &mut self.outs,
-            &mut self.lines,
-        )
+        self.teller.tell(alloc, size, front(run, TELLING), sink)
     }
 
-    /// Reads the text line that has begun, of so many bytes. Its outcome lines stand in `lines`.
-    fn read_begun(&mut self, alloc: Global, size: u64) -> Result<(), AllocError>
-        requires within { Within (feed_shown self.old) }
+    /// The text line that has begun, of so many bytes.
+    fn begun_line<K: Sink>(&mut self, alloc: Global, size: u64, sink: &mut K) -> Result<(), Fault>
+        requires within { Small (feed_shown self.old).reading }
         requires some { 1 ≤ size }
         requires bound { size ≤ input_limit + 1 }
-        ensures lines { OnOk result (self.new.lines.items ≡ (text_read (reading_shown self.old.reading) size self.old.begun.kept.items).lines) }
-        ensures next { OnOk result (feed_shown self.new ≡ opened (text_read (reading_shown self.old.reading) size self.old.begun.kept.items).next) }
+        ensures sends { Sends K.written K.faults sink.old sink.new self.old.teller.pending.text self.new.teller.pending.text (text_read (feed_shown self.old).reading size self.old.begun.kept.items).text result }
+        ensures next { OnOk result (feed_shown self.new ≡ opened (text_read (feed_shown self.old).reading size self.old.begun.kept.items).next) }
         ensures within { OnOk result (Within (feed_shown self.new)) }
-        ensures same { self.new.pending ≡ self.old.pending }
     {
-        self.lines.clear();
-        let read = self.reading.text(
-            alloc,
-            size,
-            self.begun.kept.as_slice(),
-            &mut self.outs,
-            &mut self.lines,
-        );
+        let told = self
+            .teller
+            .tell(alloc, size, self.begun.kept.as_slice(), sink);
         self.begun.clear();
-        read
-    }
-
-    /// Reads the text line that ends with a run, of so many bytes. Its outcome lines stand in `lines`.
-    fn read(&mut self, alloc: Global, size: u64, run: &[u8]) -> Result<(), AllocError>
-        requires within { Within (feed_shown self.old) }
-        requires some { 1 ≤ size }
-        requires bound { size ≤ input_limit + 1 }
-        requires run { (feed_shown self.old).reading.bytes + self.old.begun.size + length run.now ≤ input_limit }
-        ensures lines { OnOk result (self.new.lines.items ≡ (text_read (reading_shown self.old.reading) size (kept_run self.old.begun.kept.items run.now)).lines) }
-        ensures next { OnOk result (feed_shown self.new ≡ opened (text_read (reading_shown self.old.reading) size (kept_run self.old.begun.kept.items run.now)).next) }
-        ensures within { OnOk result (Within (feed_shown self.new)) }
-        ensures same { self.new.pending ≡ self.old.pending }
-    {
-        if self.begun.kept.is_empty() {
-            return self.read_run(alloc, size, run);
-        }
-        self.begun.add(run);
-        self.read_begun(alloc, size)
+        told
     }
 
     /// The text line that ends with a run, of so many bytes.
@@ -206,29 +219,33 @@ impl Feed {
         requires some { 1 ≤ size }
         requires bound { size ≤ input_limit + 1 }
         requires run { (feed_shown self.old).reading.bytes + self.old.begun.size + length run.now ≤ input_limit }
-        ensures sends { Sends K.written K.faults sink.old sink.new self.old.pending.text self.new.pending.text (outcomes_text (text_read (reading_shown self.old.reading) size (kept_run self.old.begun.kept.items run.now)).lines) result }
-        ensures next { OnOk result (feed_shown self.new ≡ opened (text_read (reading_shown self.old.reading) size (kept_run self.old.begun.kept.items run.now)).next) }
+        ensures sends { Sends K.written K.faults sink.old sink.new self.old.teller.pending.text self.new.teller.pending.text (text_read (feed_shown self.old).reading size (kept_run self.old.begun.kept.items run.now)).text result }
+        ensures next { OnOk result (feed_shown self.new ≡ opened (text_read (feed_shown self.old).reading size (kept_run self.old.begun.kept.items run.now)).next) }
         ensures within { OnOk result (Within (feed_shown self.new)) }
     {
-        match self.read(alloc, size, run) {
-            Ok(()) => send_lines(self.lines.as_slice(), &mut self.pending, sink),
-            Err(_) => Err(Fault::Memory),
+        if self.begun.kept.is_empty() {
+            return self.run_line(alloc, size, run, sink);
         }
+        self.begun.add(run);
+        self.begun_line(alloc, size, sink)
     }
 
     /// The first text line of the rest of a piece, or what there is of it: how many bytes were taken.
     fn line<K: Sink>(&mut self, alloc: Global, rest: &[u8], sink: &mut K) -> Result<usize, Fault>
         requires within { Within (feed_shown self.old) }
         requires some { 1 ≤ length rest.now }
-        ensures sends { Sends K.written K.faults sink.old sink.new self.old.pending.text self.new.pending.text (feds_text (feed_shown self.old) (taken rest.now result)) result }
+        ensures sends { Sends K.written K.faults sink.old sink.new self.old.teller.pending.text self.new.teller.pending.text (feds_text (feed_shown self.old) (taken rest.now result)) result }
         ensures next { OnOk result (feed_shown self.new ≡ feds (feed_shown self.old) (taken rest.now result)) }
         ensures within { OnOk result (Within (feed_shown self.new)) }
         ensures count { IfOk result (λ count. (1 ≤ count) × (count ≤ length rest.now)) }
     {
-        if self.reading.is_over() {
+        if self.teller.reading.is_over() {
             return Ok(rest.len());
         }
-        match look_ahead(rest, INPUT_LIMIT - self.reading.bytes - self.begun.size) {
+        match look_ahead(
+            rest,
+            INPUT_LIMIT - self.teller.reading.bytes - self.begun.size,
+        ) {
             Ahead::Line(at) => {
                 let (run, _) = rest.split_at(at);
                 match self.text_line(alloc, self.begun.size + (at as u64 + 1), run, sink) {
@@ -241,7 +258,12 @@ impl Feed {
                 Ok(rest.len())
             }
             Ahead::Past => {
-                match self.text_line(alloc, INPUT_LIMIT + 1 - self.reading.bytes, &[], sink) {
+                match self.text_line(
+                    alloc,
+                    INPUT_LIMIT + 1 - self.teller.reading.bytes,
+                    &[],
+                    sink,
+                ) {
                     Ok(()) => Ok(rest.len()),
                     Err(fault) => Err(fault),
                 }
@@ -257,7 +279,7 @@ impl Feed {
         sink: &mut K,
     ) -> Result<(), Fault>
         requires within { Within (feed_shown self.old) }
-        ensures sends { Sends K.written K.faults sink.old sink.new self.old.pending.text self.new.pending.text (feds_text (feed_shown self.old) piece.now) result }
+        ensures sends { Sends K.written K.faults sink.old sink.new self.old.teller.pending.text self.new.teller.pending.text (feds_text (feed_shown self.old) piece.now) result }
         ensures next { OnOk result (feed_shown self.new ≡ feds (feed_shown self.old) piece.now) }
         ensures within { OnOk result (Within (feed_shown self.new)) }
     {
@@ -280,21 +302,21 @@ impl Feed {
         ensures next { OnOk result (feed_shown self.new ≡ feds (feed_shown self.old) piece.now) }
         ensures within { OnOk result (Within (feed_shown self.new)) }
     {
-        self.pending.clear();
+        self.teller.pending.clear();
         match self.text_lines(alloc, piece, sink) {
-            Ok(()) => match flush(&mut self.pending, sink) {
+            Ok(()) => match flush(&mut self.teller.pending, sink) {
                 Ok(()) => Ok(()),
                 Err(_) => Err(Fault::Write),
             },
-            Err(fault) => Err(give_up(fault, &mut self.pending, sink)),
+            Err(fault) => Err(give_up(fault, &mut self.teller.pending, sink)),
         }
     }
 
     /// What has begun, as the last text line.
     fn close<K: Sink>(&mut self, alloc: Global, sink: &mut K) -> Result<(), Fault>
         requires within { Within (feed_shown self.old) }
-        ensures sends { Sends K.written K.faults sink.old sink.new self.old.pending.text self.new.pending.text (outcomes_text (closed (feed_shown self.old)).lines) result }
-        ensures next { OnOk result (reading_shown self.new.reading ≡ (closed (feed_shown self.old)).next) }
+        ensures sends { Sends K.written K.faults sink.old sink.new self.old.teller.pending.text self.new.teller.pending.text (closed (feed_shown self.old)).text result }
+        ensures next { OnOk result (reading_shown self.new.teller.reading ≡ (closed (feed_shown self.old)).next) }
         ensures within { OnOk result (Within (feed_shown self.new)) }
     {
         if self.begun.size == 0 {
@@ -303,16 +325,16 @@ impl Feed {
         self.text_line(alloc, self.begun.size, &[], sink)
     }
 
-    /// The outcome lines of what has begun, and the last line.
+    /// The text of what has begun, and the last line.
     fn last_lines<K: Sink>(&mut self, alloc: Global, sink: &mut K) -> Result<Ending, Fault>
         requires within { Within (feed_shown self.old) }
-        ensures sends { Sends K.written K.faults sink.old sink.new self.old.pending.text self.new.pending.text (fed_gives (feed_shown self.old) []).text result }
+        ensures sends { Sends K.written K.faults sink.old sink.new self.old.teller.pending.text self.new.teller.pending.text (fed_gives (feed_shown self.old) []).text result }
         ensures ending { IfOk result (λ e. e ≡ (fed_gives (feed_shown self.old) []).ending) }
     {
         match self.close(alloc, sink) {
             Ok(()) => {
-                let ending = self.reading.end();
-                match write_ending(&ending, &mut self.pending) {
+                let ending = self.teller.reading.end();
+                match write_ending(&ending, &mut self.teller.pending) {
                     Ok(()) => Ok(ending),
                     Err(_) => Err(Fault::Memory),
                 }
@@ -327,13 +349,13 @@ impl Feed {
         ensures does { Does K.written K.faults sink.old sink.new (fed_gives (feed_shown self.old) []).text result }
         ensures ending { IfOk result (λ e. e ≡ (fed_gives (feed_shown self.old) []).ending) }
     {
-        self.pending.clear();
+        self.teller.pending.clear();
         match self.last_lines(alloc, sink) {
-            Ok(ending) => match flush(&mut self.pending, sink) {
+            Ok(ending) => match flush(&mut self.teller.pending, sink) {
                 Ok(()) => Ok(ending),
                 Err(_) => Err(Fault::Write),
             },
-            Err(fault) => Err(give_up(fault, &mut self.pending, sink)),
+            Err(fault) => Err(give_up(fault, &mut self.teller.pending, sink)),
         }
     }
 }

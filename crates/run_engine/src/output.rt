@@ -1,14 +1,17 @@
 //! Text on its way to the sink, in pieces.
 ghost use Rattle.std.specs.Prelude.{◌≡◌, [], OnOk};
 ghost use Rattle.edge_io.specs.Writing.{Wrote};
-ghost use Rattle.definitions.specs.Endings.{outcome_text, outcomes_text};
+ghost use Rattle.definitions.specs.Endings.{outcomes_text};
+ghost use Rattle.definitions.specs.OutcomeText.{outcome_text};
+ghost use Rattle.run_engine.specs.Reads.{again_by, text_by};
 ghost use Rattle.run_engine.specs.Sends.{Sends, GivesUp};
 
+use crate::reads::Reads;
 use definitions::outcome::Outcome;
-use document_text::write::write_outcome;
 use edge_io::buffer::TextBuffer;
 use edge_io::stream::Sink;
 use edge_io::writing::{WriteFault, write_text};
+use outcome_text::write_outcome;
 
 /// So many bytes of text wait at most before they go to the sink.
 const PIECE: usize = 65_536;
@@ -53,6 +56,16 @@ fn flush_full<K: Sink>(pending: &mut TextBuffer, sink: &mut K) -> Result<(), Fau
     }
 }
 
+/// Sends a text.
+fn send_text<K: Sink>(text: &[u8], pending: &mut TextBuffer, sink: &mut K) -> Result<(), Fault>
+    ensures { Sends K.written K.faults sink.old sink.new pending.old.text pending.new.text text.now result }
+{
+    match write_text(pending, text) {
+        Ok(()) => flush_full(pending, sink),
+        Err(_) => Err(Fault::Memory),
+    }
+}
+
 /// Sends an outcome line.
 fn send_line<K: Sink>(
     outcome: &Outcome,
@@ -68,7 +81,7 @@ fn send_line<K: Sink>(
 }
 
 /// Sends outcome lines, one after the other.
-pub fn send_lines<K: Sink>(
+fn send_lines<K: Sink>(
     lines: &[Outcome],
     pending: &mut TextBuffer,
     sink: &mut K,
@@ -82,6 +95,41 @@ pub fn send_lines<K: Sink>(
         }
     }
     Ok(())
+}
+
+/// Sends a text line again, where it is written again.
+fn send_again<K: Sink>(
+    reads: Reads,
+    text: &[u8],
+    pending: &mut TextBuffer,
+    sink: &mut K,
+) -> Result<(), Fault>
+    ensures { Sends K.written K.faults sink.old sink.new pending.old.text pending.new.text (again_by reads text.now) result }
+{
+    match reads {
+        Reads::Again => match send_text(text, pending, sink) {
+            Ok(()) => send_text(b"\n", pending, sink),
+            Err(fault) => Err(fault),
+        },
+        Reads::On => Ok(()),
+        Reads::Ends(_) => Ok(()),
+    }
+}
+
+/// Sends what a text line gives: its outcome lines, and the text line again.
+pub fn send_read<K: Sink>(
+    reads: Reads,
+    lines: &[Outcome],
+    text: &[u8],
+    pending: &mut TextBuffer,
+    sink: &mut K,
+) -> Result<(), Fault>
+    ensures { Sends K.written K.faults sink.old sink.new pending.old.text pending.new.text (text_by reads lines.now text.now) result }
+{
+    match send_lines(lines, pending, sink) {
+        Ok(()) => send_again(reads, text, pending, sink),
+        Err(fault) => Err(fault),
+    }
 }
 
 /// The fault of a document that is given up: where memory was wanting, what is pending is written all the same, and a sink

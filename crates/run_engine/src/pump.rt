@@ -4,12 +4,14 @@ ghost use Rattle.definitions.specs.Trace.{is_over};
 ghost use Rattle.byte_feed.specs.Feed.{opened};
 ghost use Rattle.run_engine.specs.Feeding.{feed_shown, Within};
 ghost use Rattle.document_laws.specs.Throughout.{SafeThroughout};
-ghost use Rattle.run_engine.specs.Complete.{Complete, RefusesDocument};
+ghost use Rattle.run_engine.specs.Complete.{Complete, CompleteCheck, RefusesDocument, RefusesChecked};
+ghost use Rattle.definitions.specs.declared.document.Command.TheVariants.{Run, Check};
 ghost use Rattle.run_engine.specs.Running.{AtEnd, AtStop, Midway, Pumped, PumpCauses, Ran, ReadCut, Causes, cut_of, status_of_cut};
 
 use crate::feed::Feed;
 use crate::output::Fault;
 use crate::stage::status;
+use definitions::document::Command;
 use edge_io::status::Status;
 use edge_io::stream::{Got, Sink, Source};
 use std::alloc::Global;
@@ -77,12 +79,18 @@ fn pump<S: Source, K: Sink>(
     unreachable!()
 }
 
-/// Writes what the source's bytes give, from their start.
-fn run_from<S: Source, K: Sink>(alloc: Global, feed: &mut Feed, src: &mut S, sink: &mut K) -> Status
-    requires start { feed_shown feed.old ≡ opened Rattle.definitions.specs.Trace.start }
+/// Writes what the source's bytes give under a command, from their start.
+fn run_from<S: Source, K: Sink>(
+    alloc: Global,
+    command: Command,
+    feed: &mut Feed,
+    src: &mut S,
+    sink: &mut K,
+) -> Status
+    requires start { feed_shown feed.old ≡ opened (Rattle.definitions.specs.Trace.start command) }
     requires within { Within (feed_shown feed.old) }
-    ensures ran { Ran result (S.left src.old) (K.written sink.old) (K.written sink.new) }
-    ensures read { ReadCut result (S.left src.old) (S.left src.new) (K.written sink.old) (K.written sink.new) }
+    ensures ran { Ran command result (S.left src.old) (K.written sink.old) (K.written sink.new) }
+    ensures read { ReadCut command result (S.left src.old) (S.left src.new) (K.written sink.old) (K.written sink.new) }
     ensures causes { Causes result (S.faults src.old) (S.faults src.new) (K.faults sink.old) (K.faults sink.new) }
     ensures ended { result ≡ Status.Done → AtEnd (S.left src.new) }
 {
@@ -95,19 +103,41 @@ fn run_from<S: Source, K: Sink>(alloc: Global, feed: &mut Feed, src: &mut S, sin
     }
 }
 
+/// Writes what the source's bytes give under a command.
+fn give<S: Source, K: Sink>(alloc: Global, command: Command, src: &mut S, sink: &mut K) -> Status
+    ensures ran { Ran command result (S.left src.old) (K.written sink.old) (K.written sink.new) }
+    ensures read { ReadCut command result (S.left src.old) (S.left src.new) (K.written sink.old) (K.written sink.new) }
+    ensures causes { Causes result (S.faults src.old) (S.faults src.new) (K.faults sink.old) (K.faults sink.new) }
+    ensures ended { result ≡ Status.Done → AtEnd (S.left src.new) }
+{
+    match Feed::start(alloc, command) {
+        Ok(mut feed) => run_from(alloc, command, &mut feed, src, sink),
+        Err(_) => Status::Memory,
+    }
+}
+
+/// Writes what a run of the source's bytes gives: the outcome lines of a document, and its last line.
 #[tactic(auto, using(crate::proofs::Completing::all_safe))]
-/// Writes what the source's bytes give: the outcome lines of a document, and its last line.
 pub fn run<S: Source, K: Sink>(alloc: Global, src: &mut S, sink: &mut K) -> Status
-    ensures ran { Ran result (S.left src.old) (K.written sink.old) (K.written sink.new) }
-    ensures read { ReadCut result (S.left src.old) (S.left src.new) (K.written sink.old) (K.written sink.new) }
+    ensures ran { Ran Run result (S.left src.old) (K.written sink.old) (K.written sink.new) }
+    ensures read { ReadCut Run result (S.left src.old) (S.left src.new) (K.written sink.old) (K.written sink.new) }
     ensures causes { Causes result (S.faults src.old) (S.faults src.new) (K.faults sink.old) (K.faults sink.new) }
     ensures ended { result ≡ Status.Done → AtEnd (S.left src.new) }
     ensures complete { Complete result (S.left src.old) (K.written sink.old) (K.written sink.new) (S.faults src.old) (S.faults src.new) (K.faults sink.old) (K.faults sink.new) }
     ensures refuses { RefusesDocument result (S.left src.old) (K.written sink.old) (K.written sink.new) (S.faults src.old) (S.faults src.new) (K.faults sink.old) (K.faults sink.new) }
     ensures safe { IfSome (S.left src.old) SafeThroughout }
 {
-    match Feed::start(alloc) {
-        Ok(mut feed) => run_from(alloc, &mut feed, src, sink),
-        Err(_) => Status::Memory,
-    }
+    give(alloc, Command::Run, src, sink)
+}
+
+/// Writes what a check of the source's bytes gives: the document without comments and blank lines, and its last line.
+pub fn check<S: Source, K: Sink>(alloc: Global, src: &mut S, sink: &mut K) -> Status
+    ensures ran { Ran Check result (S.left src.old) (K.written sink.old) (K.written sink.new) }
+    ensures read { ReadCut Check result (S.left src.old) (S.left src.new) (K.written sink.old) (K.written sink.new) }
+    ensures causes { Causes result (S.faults src.old) (S.faults src.new) (K.faults sink.old) (K.faults sink.new) }
+    ensures ended { result ≡ Status.Done → AtEnd (S.left src.new) }
+    ensures complete { CompleteCheck result (S.left src.old) (K.written sink.old) (K.written sink.new) (S.faults src.old) (S.faults src.new) (K.faults sink.old) (K.faults sink.new) }
+    ensures refuses { RefusesChecked result (S.left src.old) (K.written sink.old) (K.written sink.new) (S.faults src.old) (S.faults src.new) (K.faults sink.old) (K.faults sink.new) }
+{
+    give(alloc, Command::Check, src, sink)
 }

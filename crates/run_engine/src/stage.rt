@@ -1,23 +1,29 @@
 //! Where a document stands between two text lines.
-ghost use Rattle.std.specs.Prelude.{◌≡◌, [], ◌+◌, ◌-◌, ◌<◌, ◌≤◌, ◌^◌, false, IfOk, OnOk, length, count_by};
-ghost use Rattle.definitions.specs.Rules.{is_any_zone, rule_of, finish_rule};
-ghost use Rattle.definitions.specs.Trace.{Items, Script, is_over, quiet, second_zone, item_read, script_read, event_read, among_items, in_script, stage_read, stage_ends, text_read, input_limit};
+ghost use Rattle.std.specs.Prelude.{◌≡◌, ℕ, List, [], ◌+◌, ◌-◌, ◌<◌, ◌≤◌, ◌^◌, false, true, IfOk, OnOk, length, count_by};
+ghost use Rattle.definitions.specs.Rules.{is_any_zone, is_line, rule_of, finish_rule};
+ghost use Rattle.definitions.specs.Premises.{built};
+ghost use Rattle.definitions.specs.World.{trains};
+ghost use Rattle.definitions.specs.Trace.{Items, Script, is_over, second_zone, item_read, begun, script_read, plan_read, event_comes, came, among_items, in_script, in_check, stage_read, stage_ends, text_read, input_limit};
 ghost use Rattle.definitions.specs.Grammar.{item_line_of, event_line_of};
 ghost use Rattle.definitions.specs.Steps.{story_of};
 ghost use Rattle.definitions.specs.Endings.{status_of};
 ghost use Rattle.run_engine.specs.Faults.{Refuses};
-ghost use Rattle.run_engine.specs.Shown.{stage_shown, IsItems, items_of, left_by, reading_shown, Small, Steady};
+ghost use Rattle.run_engine.specs.Reads.{stays, left_by, text_by, led};
+ghost use Rattle.run_engine.specs.Shown.{check_shown, stage_shown, IsItems, items_of, reading_shown, Small, Steady};
 
-use definitions::document::{Ending, EventLine, ItemLine};
+use crate::check::Check;
+use crate::reads::Reads;
+use arrayvec::ArrayVec;
+use definitions::document::{Command, Ending, EventLine, ItemLine};
 use definitions::event::Event;
 use definitions::item::Item;
 use definitions::outcome::Outcome;
-use document_text::read::event_line;
 use edge_io::status::Status;
-use line_map::{LineBuilder, LineFault};
+use line_map::{Line, LineBuilder, LineFault};
 use line_system::{Answer, System};
 use line_text::item_line;
 use msg_codec::Outs;
+use script_text::{Values, event_line};
 use std::alloc::{AllocError, Global};
 use std::mem;
 
@@ -29,7 +35,29 @@ pub const INPUT_LIMIT: u64 = 67_108_864;
 pub enum Stage {
     Items(LineBuilder),
     Script(System, u64),
+    Checked(Check),
     Over(Ending),
+}
+
+/// Room for what a text line says, for what a step gives, and for the outcome lines of the text line.
+#[derive(Drop)]
+pub struct Room {
+    pub lines: Vec<Outcome>,
+    outs: Outs,
+    says: EventLine,
+    values: Values,
+}
+
+impl Room {
+    /// It holds nothing.
+    pub fn new(alloc: Global) -> Result<Room, AllocError> {
+        Ok(Room {
+            lines: Vec::new(alloc),
+            outs: Outs::new(alloc)?,
+            says: EventLine::Passed,
+            values: ArrayVec::new(),
+        })
+    }
 }
 
 /// Whether an item is a zone after another one.
@@ -43,49 +71,127 @@ fn is_second(builder: &LineBuilder, item: &Item) -> bool
 }
 
 /// How a fault of the line at text line n ends the document.
-fn refused(n: u64, fault: LineFault) -> Result<Option<Ending>, AllocError>
+fn refused(n: u64, fault: LineFault) -> Result<Reads, AllocError>
     ensures { Refuses n fault result }
 {
     match fault {
-        LineFault::Rule(rule) => Ok(Some(Ending::Rule(n, rule))),
+        LineFault::Rule(rule) => Ok(Reads::Ends(Ending::Rule(n, rule))),
         LineFault::Memory => Err(AllocError),
     }
 }
 
-/// Adds an item, which text line n is: what ends the document there, if anything.
-fn add_item(n: u64, builder: &mut LineBuilder, item: &Item) -> Result<Option<Ending>, AllocError>
-    ensures { IfOk result (λ ending. left_by ending (Items builder.new) ≡ item_read n builder.old item.now (second_zone builder.old item.now) (rule_of builder.old item.now)) }
+/// Adds an item, which text line n is.
+fn add_item(
+    command: Command,
+    n: u64,
+    builder: &mut LineBuilder,
+    item: &Item,
+) -> Result<Reads, AllocError>
+    ensures { IfOk result (λ r. (text : List ℕ) → led r (Items builder.new) [] text ≡ item_read command n builder.old item.now text (second_zone builder.old item.now) (rule_of builder.old item.now)) }
 {
     if is_second(builder, item) {
-        return Ok(Some(Ending::Unbuilt(n)));
+        return Ok(Reads::Ends(Ending::Unbuilt(n)));
     }
     match builder.add(item) {
-        Ok(()) => Ok(None),
+        Ok(()) => Ok(Reads::stays(command)),
         Err(fault) => refused(n, fault),
     }
 }
 
-/// Begins the script of a line of these items, at text line n: what ends the document there, if anything.
+/// The script of a line, at its begin.
+fn begin(alloc: Global, command: Command, line: Line) -> Result<Stage, AllocError>
+    requires valid { is_line line ≡ true }
+    requires one { count_by is_any_zone line ≤ 1 }
+    ensures { IfOk result (λ s. stage_shown s ≡ begun command line) }
+{
+    match command {
+        Command::Run => Ok(Stage::Script(System::start(alloc, line)?, 0)),
+        Command::Check => Ok(Stage::Checked(Check::start(alloc, line)?)),
+    }
+}
+
+/// Begins the script of a line of these items, at text line n.
 fn begin_script(
     alloc: Global,
+    command: Command,
     n: u64,
     builder: LineBuilder,
     stage: &mut Stage,
-) -> Result<Option<Ending>, AllocError>
+) -> Result<Reads, AllocError>
     requires one { count_by is_any_zone builder ≤ 1 }
-    ensures { IfOk result (λ ending. left_by ending (stage_shown stage.new) ≡ script_read n builder (finish_rule builder)) }
+    ensures { IfOk result (λ r. (text : List ℕ) → led r (stage_shown stage.new) [] text ≡ script_read command n builder text (finish_rule builder)) }
 {
     match builder.finish() {
         Ok(line) => {
-            *stage = Stage::Script(System::start(alloc, line)?, 0);
-            Ok(None)
+            *stage = begin(alloc, command, line)?;
+            Ok(Reads::stays(command))
         }
         Err(fault) => refused(n, fault),
     }
 }
 
+/// Text line n is an item.
+fn read_item(command: Command, n: u64, stage: &mut Stage, item: &Item) -> Result<Reads, AllocError>
+    requires { IsItems (stage_shown stage.old) }
+    ensures { IfOk result (λ r. (text : List ℕ) → led r (stage_shown stage.new) [] text ≡ among_items command n (items_of (stage_shown stage.old)) text (ItemLine.Item item.now)) }
+{
+    match stage {
+        Stage::Items(builder) => add_item(command, n, builder, item),
+        Stage::Script(_, _) | Stage::Checked(_) | Stage::Over(_) => unreachable!(),
+    }
+}
+
+/// Text line n is the word that begins the script.
+fn read_script(
+    alloc: Global,
+    command: Command,
+    n: u64,
+    stage: &mut Stage,
+) -> Result<Reads, AllocError>
+    requires items { IsItems (stage_shown stage.old) }
+    requires steady { Steady (n - 1) (stage_shown stage.old) }
+    ensures { IfOk result (λ r. (text : List ℕ) → led r (stage_shown stage.new) [] text ≡ among_items command n (items_of (stage_shown stage.old)) text ItemLine.Script) }
+{
+    match mem::replace(stage, Stage::Over(Ending::Input)) {
+        Stage::Items(builder) => begin_script(alloc, command, n, builder, stage),
+        Stage::Script(_, _) | Stage::Checked(_) | Stage::Over(_) => unreachable!(),
+    }
+}
+
+/// How the word `plan` at text line n ends the document.
+fn plan(command: Command, n: u64) -> Reads
+    ensures { (text : List ℕ) → led result (Items []) [] text ≡ plan_read command n }
+{
+    match command {
+        Command::Run => Reads::Ends(Ending::ScriptColumn(n, 1)),
+        Command::Check => Reads::Ends(Ending::Unbuilt(n)),
+    }
+}
+
+/// Text line n stands among the items.
+fn read_among_items(
+    alloc: Global,
+    command: Command,
+    n: u64,
+    stage: &mut Stage,
+    text: &[u8],
+) -> Result<Reads, AllocError>
+    requires items { IsItems (stage_shown stage.old) }
+    requires steady { Steady (n - 1) (stage_shown stage.old) }
+    ensures { IfOk result (λ r. led r (stage_shown stage.new) [] text.now ≡ among_items command n (items_of (stage_shown stage.old)) text.now (item_line_of text.now)) }
+{
+    match item_line(text) {
+        ItemLine::Passed => Ok(Reads::On),
+        ItemLine::Item(item) => read_item(command, n, stage, &item),
+        ItemLine::Unbuilt => Ok(Reads::Ends(Ending::Unbuilt(n))),
+        ItemLine::Script => read_script(alloc, command, n, stage),
+        ItemLine::Plan => Ok(plan(command, n)),
+        ItemLine::Fault(column) => Ok(Reads::Ends(Ending::LineColumn(n, column))),
+    }
+}
+
 /// An event of the script at text line n, after so many. Its outcome lines are added to `lines`, which is empty; `outs` is
-/// room for what one step gives. What ends the document there, if anything.
+/// room for what one step gives.
 fn run_event(
     n: u64,
     system: &mut System,
@@ -93,118 +199,106 @@ fn run_event(
     event: &Event,
     outs: &mut Outs,
     lines: &mut Vec<Outcome>,
-) -> Result<Option<Ending>, AllocError>
+) -> Result<Reads, AllocError>
     requires small { count.old + 1 < 2 ^ 64 }
     requires empty { lines.old.items ≡ [] }
-    ensures { IfOk result (λ ending. record { stage = left_by ending (Script system.new.line system.new.events count.new); lines = lines.new.items } ≡ event_read n system.old.line system.old.events count.old (story_of system.old.line system.old.events) event.now) }
+    requires built { built system.old.line (story_of system.old.line system.old.events) event.now ≡ true }
+    ensures { IfOk result (λ r. (text : List ℕ) → led r (Script system.new.line system.new.events count.new) lines.new.items text ≡ came system.old.line count.old (event_comes n system.old.line system.old.events (story_of system.old.line system.old.events) event.now)) }
 {
     match system.read(event, outs, lines)? {
-        Answer::Unbuilt => Ok(Some(Ending::Unbuilt(n))),
-        Answer::TooMany => Ok(Some(Ending::Trains)),
-        Answer::Premise(premise) => Ok(Some(Ending::Premise(n, premise))),
+        Answer::Unbuilt => unreachable!(),
+        Answer::TooMany => Ok(Reads::Ends(Ending::Trains)),
+        Answer::Full => Ok(Reads::Ends(Ending::Events)),
+        Answer::Premise(premise) => Ok(Reads::Ends(Ending::Premise(n, premise))),
         Answer::Goes => {
             *count += 1;
-            Ok(None)
+            Ok(Reads::On)
         }
     }
 }
 
-/// Text line n is an item.
-fn read_item(n: u64, stage: &mut Stage, item: &Item) -> Result<Option<Ending>, AllocError>
-    requires { IsItems (stage_shown stage.old) }
-    ensures { IfOk result (λ ending. quiet (left_by ending (stage_shown stage.new)) ≡ among_items n (items_of (stage_shown stage.old)) (ItemLine.Item item.now)) }
-{
-    match stage {
-        Stage::Items(builder) => add_item(n, builder, item),
-        Stage::Script(_, _) | Stage::Over(_) => unreachable!(),
-    }
-}
-
-/// Text line n is the word that begins the script.
-fn read_script(alloc: Global, n: u64, stage: &mut Stage) -> Result<Option<Ending>, AllocError>
-    requires items { IsItems (stage_shown stage.old) }
-    requires steady { Steady (n - 1) (stage_shown stage.old) }
-    ensures { IfOk result (λ ending. quiet (left_by ending (stage_shown stage.new)) ≡ among_items n (items_of (stage_shown stage.old)) ItemLine.Script) }
-{
-    match mem::replace(stage, Stage::Over(Ending::Input)) {
-        Stage::Items(builder) => begin_script(alloc, n, builder, stage),
-        Stage::Script(_, _) | Stage::Over(_) => unreachable!(),
-    }
-}
-
-/// Text line n stands among the items: what ends the document there, if anything.
-fn read_among_items(
-    alloc: Global,
-    n: u64,
-    stage: &mut Stage,
-    text: &[u8],
-) -> Result<Option<Ending>, AllocError>
-    requires items { IsItems (stage_shown stage.old) }
-    requires steady { Steady (n - 1) (stage_shown stage.old) }
-    ensures { IfOk result (λ ending. quiet (left_by ending (stage_shown stage.new)) ≡ among_items n (items_of (stage_shown stage.old)) (item_line_of text.now)) }
-{
-    match item_line(text) {
-        ItemLine::Passed => Ok(None),
-        ItemLine::Item(item) => read_item(n, stage, &item),
-        ItemLine::Unbuilt => Ok(Some(Ending::Unbuilt(n))),
-        ItemLine::Script => read_script(alloc, n, stage),
-        ItemLine::Plan => Ok(Some(Ending::ScriptColumn(n, 1))),
-        ItemLine::Fault(column) => Ok(Some(Ending::LineColumn(n, column))),
-    }
-}
-
-/// Text line n stands in the script, after so many events. Its outcome lines are added to `lines`, which is empty; `outs` is
-/// room for what one step gives. What ends the document there, if anything.
+/// Text line n stands in a script that is run, after so many events. Its outcome lines are added to those of the room, of
+/// which there are none.
 fn read_in_script(
     n: u64,
     system: &mut System,
     count: &mut u64,
     text: &[u8],
-    outs: &mut Outs,
-    lines: &mut Vec<Outcome>,
-) -> Result<Option<Ending>, AllocError>
+    room: &mut Room,
+) -> Result<Reads, AllocError>
     requires small { count.old + 1 < 2 ^ 64 }
-    requires empty { lines.old.items ≡ [] }
-    ensures { IfOk result (λ ending. record { stage = left_by ending (Script system.new.line system.new.events count.new); lines = lines.new.items } ≡ in_script n system.old.line system.old.events count.old (event_line_of text.now)) }
+    requires empty { room.old.lines.items ≡ [] }
+    ensures { IfOk result (λ r. led r (Script system.new.line system.new.events count.new) room.new.lines.items text.now ≡ in_script n system.old.line system.old.events count.old (event_line_of system.old.line (trains (story_of system.old.line system.old.events)) text.now)) }
 {
-    let mut says = EventLine::Passed;
-    event_line(text, &mut says);
-    match &says {
-        EventLine::Passed => Ok(None),
-        EventLine::Event(event) => run_event(n, system, count, event, outs, lines),
-        EventLine::Strange => Ok(Some(Ending::Unbuilt(n))),
+    event_line(
+        text,
+        system.line(),
+        system,
+        &mut room.values,
+        &mut room.says,
+    );
+    match &room.says {
+        EventLine::Passed => Ok(Reads::On),
+        EventLine::Event(event) => {
+            run_event(n, system, count, event, &mut room.outs, &mut room.lines)
+        }
+        EventLine::Unbuilt => Ok(Reads::Ends(Ending::Unbuilt(n))),
+        EventLine::Fault(column) => Ok(Reads::Ends(Ending::ScriptColumn(n, *column))),
     }
 }
 
-/// Text line n: what ends the document there, if anything. A stage that is ended may be spent.
+/// Text line n stands in a script that is checked.
+fn read_in_check(n: u64, check: &mut Check, text: &[u8], room: &mut Room) -> Reads
+    requires small { check.old.count + 1 < 2 ^ 64 }
+    ensures reads { led result (check_shown check.new) [] text.now ≡ in_check n check.old.line check.old.trains check.old.count text.now (event_line_of check.old.line check.old.trains text.now) }
+    ensures lines { room.new.lines.items ≡ room.old.lines.items }
+{
+    event_line(
+        text,
+        &check.line,
+        &check.trains,
+        &mut room.values,
+        &mut room.says,
+    );
+    match &room.says {
+        EventLine::Passed => Reads::On,
+        EventLine::Event(event) => check.event(event),
+        EventLine::Unbuilt => Reads::Ends(Ending::Unbuilt(n)),
+        EventLine::Fault(column) => Reads::Ends(Ending::ScriptColumn(n, *column)),
+    }
+}
+
+/// Text line n. A stage that is ended may be spent.
 #[tactic(auto, unfolding(definitions::specs::Trace::stage_read))]
 fn read(
     alloc: Global,
+    command: Command,
     n: u64,
     stage: &mut Stage,
     text: &[u8],
-    outs: &mut Outs,
-    lines: &mut Vec<Outcome>,
-) -> Result<Option<Ending>, AllocError>
+    room: &mut Room,
+) -> Result<Reads, AllocError>
     requires on { is_over (stage_shown stage.old) ≡ false }
     requires steady { Steady (n - 1) (stage_shown stage.old) }
     requires small { n ≤ input_limit + 1 }
-    requires empty { lines.old.items ≡ [] }
-    ensures { IfOk result (λ ending. record { stage = left_by ending (stage_shown stage.new); lines = lines.new.items } ≡ stage_read n (stage_shown stage.old) text.now) }
+    requires empty { room.old.lines.items ≡ [] }
+    ensures { IfOk result (λ r. led r (stage_shown stage.new) room.new.lines.items text.now ≡ stage_read command n (stage_shown stage.old) text.now) }
 {
     match stage {
-        Stage::Items(_) => read_among_items(alloc, n, stage, text),
-        Stage::Script(system, count) => read_in_script(n, system, count, text, outs, lines),
+        Stage::Items(_) => read_among_items(alloc, command, n, stage, text),
+        Stage::Script(system, count) => read_in_script(n, system, count, text, room),
+        Stage::Checked(check) => Ok(read_in_check(n, check, text, room)),
         Stage::Over(_) => unreachable!(),
     }
 }
 
-/// The document is over where there is an ending.
-fn end_by(stage: &mut Stage, ending: Option<Ending>)
-    ensures { stage_shown stage.new ≡ left_by ending (stage_shown stage.old) }
+/// The document is over where a text line ends it.
+fn end_by(stage: &mut Stage, reads: Reads)
+    ensures { stage_shown stage.new ≡ left_by reads (stage_shown stage.old) }
 {
-    if let Some(ending) = ending {
-        *stage = Stage::Over(ending);
+    match reads {
+        Reads::Ends(ending) => *stage = Stage::Over(ending),
+        Reads::On | Reads::Again => {}
     }
 }
 
@@ -233,6 +327,7 @@ fn ending(n: u64, stage: Stage) -> Ending
         Stage::Over(ending) => ending,
         Stage::Items(builder) => items_end(n, builder),
         Stage::Script(_, count) => Ending::Done(count),
+        Stage::Checked(check) => Ending::Done(check.count),
     }
 }
 
@@ -249,13 +344,15 @@ pub fn status(ending: &Ending) -> Status
         Ending::Premise(_, _) => Status::Premise,
         Ending::Input => Status::Limit,
         Ending::Trains => Status::Limit,
+        Ending::Events => Status::Limit,
         Ending::Unbuilt(_) => Status::Unbuilt,
     }
 }
 
-/// A stage after a number of text lines and of bytes.
+/// A document under a command: a stage after a number of text lines and of bytes.
 #[derive(Drop)]
 pub struct Reading {
+    pub command: Command,
     pub number: u64,
     pub bytes: u64,
     pub stage: Stage,
@@ -263,10 +360,11 @@ pub struct Reading {
 
 impl Reading {
     /// No text line was read.
-    pub fn start(alloc: Global) -> Result<Reading, AllocError>
-        ensures { IfOk result (λ r. reading_shown r ≡ Rattle.definitions.specs.Trace.start) }
+    pub fn start(alloc: Global, command: Command) -> Result<Reading, AllocError>
+        ensures { IfOk result (λ r. reading_shown r ≡ Rattle.definitions.specs.Trace.start command) }
     {
         Ok(Reading {
+            command,
             number: 0,
             bytes: 0,
             stage: Stage::Items(LineBuilder::new(alloc)?),
@@ -281,40 +379,47 @@ impl Reading {
             Stage::Over(_) => true,
             Stage::Items(_) => false,
             Stage::Script(_, _) => false,
+            Stage::Checked(_) => false,
         }
     }
 
-    /// One text line of so many bytes. Its outcome lines are added to `lines`, which is empty; `outs` is room for what one step
-    /// gives. After want of memory the document is to be given up.
+    /// One text line of so many bytes, of which the room has no outcome lines yet; they are added there. After want of memory
+    /// the document is to be given up.
     #[tactic(auto, unfolding(definitions::specs::Trace::text_read))]
     pub fn text(
         &mut self,
         alloc: Global,
         size: u64,
         text: &[u8],
-        outs: &mut Outs,
-        lines: &mut Vec<Outcome>,
-    ) -> Result<(), AllocError>
+        room: &mut Room,
+    ) -> Result<Reads, AllocError>
         requires small { Small (reading_shown self.old) }
         requires some { 1 ≤ size }
         requires bound { size ≤ input_limit + 1 }
-        requires empty { lines.old.items ≡ [] }
-        ensures lines { OnOk result (lines.new.items ≡ (text_read (reading_shown self.old) size text.now).lines) }
+        requires empty { room.old.lines.items ≡ [] }
+        ensures text { IfOk result (λ r. text_by r room.new.lines.items text.now ≡ (text_read (reading_shown self.old) size text.now).text) }
         ensures next { OnOk result (reading_shown self.new ≡ (text_read (reading_shown self.old) size text.now).next) }
         ensures small { OnOk result (Small (reading_shown self.new)) }
     {
         if self.is_over() {
-            return Ok(());
+            return Ok(Reads::On);
         }
         if self.bytes + size > INPUT_LIMIT {
             self.stage = Stage::Over(Ending::Input);
-            return Ok(());
+            return Ok(Reads::On);
         }
-        let ending = read(alloc, self.number + 1, &mut self.stage, text, outs, lines)?;
-        end_by(&mut self.stage, ending);
+        let reads = read(
+            alloc,
+            self.command,
+            self.number + 1,
+            &mut self.stage,
+            text,
+            room,
+        )?;
+        end_by(&mut self.stage, reads);
         self.number += 1;
         self.bytes += size;
-        Ok(())
+        Ok(reads)
     }
 
     /// How the document ends. The stage is spent.

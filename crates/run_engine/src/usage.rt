@@ -5,9 +5,9 @@ ghost use Rattle.definitions.specs.Trace.{ended};
 ghost use Rattle.run_engine.specs.Running.{Gave, Causes};
 
 use definitions::document::Ending;
-use document_text::write::write_ending;
 use edge_io::status::Status;
 use edge_io::stream::Sink;
+use outcome_text::write_ending;
 
 /// Writes how the program is used.
 pub fn usage<K: Sink>(sink: &mut K) -> Status

@@ -27,10 +27,10 @@ use Rattle.definitions.specs.Authority.{way, held, held_else, less_of, least_of,
 use Rattle.definitions.specs.Limit.{asked_way, continues, Ask, ask_of, on_step, token_passes, cell_passes, passes, stands, reach_on, reach_from, barring, limit}
 use Rattle.definitions.specs.Steps.{effects}
 use Rattle.definitions.specs.Safe.{IsReach, Granted, reached, portal_added, added_by, added}
-use Rattle.way_laws.proofs.Cut.{none_between}
-use Rattle.way_laws.proofs.Reach.{reach_is}
-use Rattle.way_laws.proofs.Throats.{no_token}
-use Rattle.event_laws.proofs.Known_trains.{is_among, controls_known}
+use Rattle.way_laws.proofs.Cut_front.{none_between}
+use Rattle.way_laws.proofs.Reach_granted.{reach_is}
+use Rattle.way_laws.proofs.No_throat.{no_token}
+use Rattle.event_laws.proofs.Known_more.{is_among, controls_known}
 use Rattle.safe_laws.proofs.Held_points.{held_none}
 
 none_passes : (test : ℕ → Bool) (xs : List ℕ) (u : ℕ) → list_any test xs ≡ false → is_among u xs ≡ true → test u ≡ false

@@ -12,9 +12,9 @@ use Rattle.definitions.specs.Control.{grants_entry, controls}
 use Rattle.definitions.specs.Longest.{longest_end}
 use Rattle.definitions.specs.Authority.{held}
 use Rattle.definitions.specs.Safe.{IsLineOfOneZone, added_by, added}
-use Rattle.event_laws.proofs.Grants.{quiet_grants}
+use Rattle.event_laws.proofs.Grant_takes.{quiet_grants}
 use Rattle.definitions.specs.Zones.{zone_id}
-use Rattle.event_laws.proofs.Controls.{controls_same}
+use Rattle.event_laws.proofs.Controls_same.{controls_same}
 use Rattle.event_laws.proofs.Issued.{AllIn, NoAuth, in_all_weaker, AuthHas, auth_without}
 use Rattle.invariant_laws.proofs.Invariant.{Invariant}
 use Rattle.front_laws.proofs.Route_goes_on.{end_most}

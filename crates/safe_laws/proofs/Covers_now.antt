@@ -17,9 +17,9 @@ use Rattle.definitions.specs.Fronts.{least_rear, greatest_front}
 use Rattle.definitions.specs.Authority.{way, way_has, held, envelope}
 use Rattle.definitions.specs.Safe.{IsLineOfOneZone}
 use Rattle.definitions.specs.Zones.{zone_id}
-use Rattle.way_laws.proofs.Cut.{none_between, cut_points}
-use Rattle.way_laws.proofs.Cuts.{cut_cut, points_after}
-use Rattle.event_laws.proofs.Stays.{declared_stays, long_stays}
+use Rattle.way_laws.proofs.Cut_front.{none_between, cut_points}
+use Rattle.way_laws.proofs.Cut_cut.{cut_cut, points_after}
+use Rattle.event_laws.proofs.Facts_stay.{declared_stays, long_stays}
 use Rattle.motion_laws.proofs.Motion.{place, place_at, Timed, place_at_most}
 use Rattle.invariant_laws.proofs.One_route.{numbered_controls, on_controls}
 use Rattle.invariant_laws.proofs.Invariant.{AuthorityIs, AuthTrue, ControlIs, FrontsAre, Invariant}

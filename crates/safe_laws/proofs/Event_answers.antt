@@ -10,7 +10,7 @@ use Rattle.track_points.specs.declared.ids.TrainId.{TrainId}
 use Rattle.track_points.specs.declared.path.Path.{Path}
 use Rattle.track_points.specs.Points.{Lengths, Point, total, end_place}
 use Rattle.definitions.specs.declared.event.Event.{Event}
-use Rattle.definitions.specs.declared.event.Event.TheVariants.{Train, Entry, Enter, Ask, Step, Report, Time, Take, Deliver}
+use Rattle.definitions.specs.declared.event.Event.TheVariants.{Take}
 use Rattle.definitions.specs.declared.message.Msg.{Msg}
 use Rattle.definitions.specs.declared.message.Msg.TheVariants as msg
 use Rattle.definitions.specs.declared.outcome.Obstacle.TheVariants.{NotJoined, Silent}
@@ -25,8 +25,8 @@ use Rattle.definitions.specs.Limit.{Reach, barred, further, asked_way, continues
 use Rattle.definitions.specs.Steps.{Effect, path_to, deny, grant, zone_ask, alarms, taking, message, effects}
 use Rattle.definitions.specs.Safe.{IsReach, Denied, Lengthened, Answered, IsLineOfOneZone}
 use Rattle.definitions.specs.Zones.{zone_id}
-use Rattle.way_laws.proofs.Reach.{reach_is, reach_granted}
-use Rattle.way_laws.proofs.Grown.{grown_end}
+use Rattle.way_laws.proofs.Reach_granted.{reach_is, reach_granted}
+use Rattle.way_laws.proofs.Grown_end.{grown_end}
 use Rattle.invariant_laws.proofs.Invariant.{Invariant}
 use Rattle.safe_laws.proofs.Held_points.{held_way, way_is}
 use Rattle.safe_laws.proofs.Held_way_ends.{held_way_some, held_way_within}
@@ -153,11 +153,4 @@ pub event_answers : (line : Line) (s : Story) (e : Event) → IsLineOfOneZone li
     → (effects line s e).actor ≡ suc z → (effects line s e).took ≡ Some (from, msg.Ask u time steps to)
     → Answered line (suc z) s u steps.items to (now_with (suc z) s (msg.Ask u time steps to)) (alarms line (suc z) s (msg.Ask u time steps to)) (effects line s e)
 event_answers line s (Take a f number) l invariant z from time to u steps actor took = take_answered line s a f number (message f a number s) l invariant z from time to u steps actor took
-event_answers line s (Train t long error speed kind) l invariant z from time to u steps actor took = absurd cc
-event_answers line s (Entry t step) l invariant z from time to u steps actor took = absurd cc
-event_answers line s (Enter t) l invariant z from time to u steps actor took = absurd cc
-event_answers line s (Ask t y asked limit_) l invariant z from time to u steps actor took = absurd cc
-event_answers line s (Step ms moves) l invariant z from time to u steps actor took = absurd cc
-event_answers line s (Report t y step offset whole) l invariant z from time to u steps actor took = absurd cc
-event_answers line s (Time y t) l invariant z from time to u steps actor took = absurd cc
-event_answers line s (Deliver a) l invariant z from time to u steps actor took = absurd cc
+event_answers line s _ l invariant z from time to u steps actor took = absurd cc

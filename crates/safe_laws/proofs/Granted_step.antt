@@ -25,17 +25,17 @@ use Rattle.definitions.specs.Authority.{way, holder_of}
 use Rattle.definitions.specs.Limit.{Reach, asked_way, path_of, reach_from, barring, limit}
 use Rattle.definitions.specs.Steps.{Effect, world_takes, entry_path, enter_or_held, zone_ask, zone_report, zone_time, zone_takes, alarms, transition, effects}
 use Rattle.definitions.specs.Safe.{Granted, IsLineOfOneZone, reached, added_by, added}
-use Rattle.event_laws.proofs.Does.{by_does, told_none, take_actors, take_issued}
-use Rattle.event_laws.proofs.Answers.{report_none, zone_other, world_none}
+use Rattle.event_laws.proofs.By_does.{by_does, told_none, take_actors, take_issued}
+use Rattle.event_laws.proofs.Zone_issues.{report_none, zone_other, world_none}
 use Rattle.definitions.specs.Zones.{zone_id}
-use Rattle.way_laws.proofs.Cut.{none_between}
-use Rattle.way_laws.proofs.Reach.{reach_granted}
+use Rattle.way_laws.proofs.Cut_front.{none_between}
+use Rattle.way_laws.proofs.Reach_granted.{reach_granted}
 use Rattle.event_laws.proofs.Issued.{AllIn, NoAuth, no_issue, AuthHas}
 use Rattle.event_laws.proofs.Admitted.{Admitted}
 use Rattle.motion_laws.proofs.Motion.{Timed, heads_grow}
-use Rattle.event_laws.proofs.Still.{heads_still}
+use Rattle.event_laws.proofs.Still_world.{heads_still}
 use Rattle.invariant_laws.proofs.Invariant.{RequestTrue, Invariant}
-use Rattle.invariant_laws.proofs.One_zone.{actor_zone}
+use Rattle.invariant_laws.proofs.Zone_only.{actor_zone}
 use Rattle.safe_laws.proofs.Held_points.{held_way, way_is}
 use Rattle.safe_laws.proofs.Held_way_ends.{held_way_some, held_way_within, held_way_ends}
 use Rattle.safe_laws.proofs.Calm_adds.{Adds, calm_adds, no_auth_calm, added_here}

@@ -14,14 +14,14 @@ use Rattle.definitions.specs.Fronts.{possible_front, least_rear}
 use Rattle.definitions.specs.Authority.{held}
 use Rattle.definitions.specs.Safe.{IsLineOfOneZone}
 use Rattle.definitions.specs.Zones.{zone_id}
-use Rattle.event_laws.proofs.Controls.{controls_stays}
-use Rattle.event_laws.proofs.Stays.{long_stays, first_stays}
+use Rattle.event_laws.proofs.Controls_same.{controls_stays}
+use Rattle.event_laws.proofs.Facts_stay.{long_stays, first_stays}
 use Rattle.motion_laws.proofs.Motion.{place, place_at_most}
 use Rattle.invariant_laws.proofs.Invariant.{ControlIs, FrontsAre, Invariant}
 use Rattle.safe_laws.proofs.Points_cases.{range_in, range_least, points_cases}
 use Rattle.front_laws.proofs.Head_place.{place_within}
-use Rattle.way_laws.proofs.Cut.{cut_points}
-use Rattle.way_laws.proofs.Cuts.{cut_cut}
+use Rattle.way_laws.proofs.Cut_front.{cut_points}
+use Rattle.way_laws.proofs.Cut_cut.{cut_cut}
 use Rattle.track_points.proofs.Between.{points_wider}
 use Rattle.front_laws.proofs.Route_goes_on.{route_goes_on, end_goes_on}
 use Rattle.safe_laws.proofs.Held_points.{one, route_has, rear_is, held_points, points_held}

@@ -17,12 +17,12 @@ use Rattle.definitions.specs.Fronts.{least_rear, greatest_front}
 use Rattle.definitions.specs.Authority.{way, way_has, held}
 use Rattle.definitions.specs.Safe.{IsLineOfOneZone}
 use Rattle.definitions.specs.Zones.{zone_id}
-use Rattle.way_laws.proofs.Cut.{cut_points}
-use Rattle.way_laws.proofs.Between_places.{between_points}
+use Rattle.way_laws.proofs.Cut_front.{cut_points}
+use Rattle.way_laws.proofs.Between_points.{between_points}
 use Rattle.motion_laws.proofs.Motion.{place}
 use Rattle.invariant_laws.proofs.Invariant.{AuthorityIs, ControlIs, FrontsAre, Invariant}
 use Rattle.invariant_laws.proofs.One_route.{OneRoute, one_route}
-use Rattle.front_laws.proofs.Front_numbers.{greatest_front_is}
+use Rattle.front_laws.proofs.Fronts_numbers.{greatest_front_is}
 use Rattle.front_laws.proofs.Way_begins.{rear_before_least, way_behind}
 use Rattle.safe_laws.proofs.Points_owner.{points_owner}
 

@@ -9,8 +9,8 @@ use Rattle.definitions.specs.Longest.{longest_end, longest_route}
 use Rattle.definitions.specs.Fronts.{least_rear}
 use Rattle.definitions.specs.Safe.{IsLineOfOneZone}
 use Rattle.definitions.specs.Zones.{zone_id}
-use Rattle.way_laws.proofs.Between_places.{between_some, between_end, between_within}
-use Rattle.event_laws.proofs.Still.{journey_still}
+use Rattle.way_laws.proofs.Between_points.{between_some, between_end, between_within}
+use Rattle.event_laws.proofs.Still_world.{journey_still}
 use Rattle.invariant_laws.proofs.Invariant.{Invariant}
 use Rattle.front_laws.proofs.Way_begins.{way_begins}
 use Rattle.safe_laws.proofs.Held_points.{one, held_way, rear_before}

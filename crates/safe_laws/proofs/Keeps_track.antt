@@ -13,8 +13,8 @@ use Rattle.definitions.specs.Control.{controls, last_issued}
 use Rattle.definitions.specs.Longest.{longest_end, longest_route}
 use Rattle.definitions.specs.Safe.{IsLineOfOneZone, OnTrack}
 use Rattle.definitions.specs.Zones.{zone_id}
-use Rattle.way_laws.proofs.Cut.{cut_total}
-use Rattle.way_laws.proofs.Between_places.{behind_least}
+use Rattle.way_laws.proofs.Cut_front.{cut_total}
+use Rattle.way_laws.proofs.Between_points.{behind_least}
 use Rattle.invariant_laws.proofs.Invariant.{ControlIs, Invariant}
 use Rattle.invariant_laws.proofs.One_route.{OneRoute, one_route, path_parts, on_controls, journey_few}
 use Rattle.safe_laws.proofs.Held_points.{rear_behind}

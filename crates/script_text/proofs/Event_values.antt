@@ -11,10 +11,10 @@ use Rattle.form_codec.proofs.Short_texts.{times_length}
 use Rattle.definitions.specs.Track.{Line}
 use Rattle.definitions.specs.ItemText.{sign_value}
 use Rattle.definitions.specs.ItemReading.{dir_of}
-use Rattle.script_text.specs.declared.event.ScriptEvent.{ScriptEvent}
-use Rattle.script_text.specs.declared.event.ScriptEvent.TheVariants as is
-use Rattle.script_text.specs.EventText.{event_forms, event_place, event_values, kind_value, keep_value, flag_value, offset_value, step_values, move_values}
-use Rattle.script_text.specs.EventFields.{tried, kind_of, keep_of, offset_of, step_of, train_id, and_step, and_move, and_ms, and_asks, asked_of, moves_of, train_of, entry_of, enter_of, step_event_of, report_of, detect_of, scan_of, time_of, ask_of, close_of, open_of, turn_of, set_of, shorten_of, echo_of, leave_of, take_of, deliver_of, restart_of, keep_fail_of, noise_of, round_of, lost_of, event_of}
+use Rattle.definitions.specs.declared.event.Event.{Event}
+use Rattle.definitions.specs.declared.event.Event.TheVariants as is
+use Rattle.definitions.specs.EventText.{event_forms, event_place, event_values, kind_value, keep_value, flag_value, offset_value, step_values, move_values}
+use Rattle.definitions.specs.EventFields.{tried, kind_of, keep_of, offset_of, step_of, train_id, and_step, and_move, and_ms, and_asks, asked_of, moves_of, train_of, entry_of, enter_of, step_event_of, report_of, detect_of, scan_of, time_of, ask_of, close_of, open_of, turn_of, set_of, shorten_of, echo_of, leave_of, take_of, deliver_of, restart_of, keep_fail_of, noise_of, round_of, lost_of, event_of}
 use Rattle.script_text.specs.Sees.{AllBytes, HasRoom}
 
 -- a field that was not refused
@@ -31,11 +31,11 @@ same : {A : Type 0} (x e : A) → ◌≡◌ {A = Result A ℕ} (Ok x) (Ok e) →
 same x e h = cc
 
 -- an event of a form's place and values
-pub record Made (i : ℕ) (vs : List ℕ) (x : ScriptEvent) : Type 0 where
+pub record Made (i : ℕ) (vs : List ℕ) (x : Event) : Type 0 where
   pub place : event_place x ≡ i
   pub values : event_values x ≡ vs
 
-made_by : (i : ℕ) (vs : List ℕ) (y x : ScriptEvent) → event_place y ≡ i → event_values y ≡ vs → ◌≡◌ {A = Result ScriptEvent ℕ} (Ok y) (Ok x) → Made i vs x
+made_by : (i : ℕ) (vs : List ℕ) (y x : Event) → event_place y ≡ i → event_values y ≡ vs → ◌≡◌ {A = Result Event ℕ} (Ok y) (Ok x) → Made i vs x
 made_by i vs y x p v h = subst (Made i vs) (same y x h) (record { place = p; values = v })
 
 -- signs, words and offsets
@@ -82,7 +82,7 @@ offset_again v n = offset_by v (nat_lt v number_limit) refl n
 
 -- forms without lists
 
-train_made : (trains : List TrainId) (vs text : List ℕ) (x : ScriptEvent) → Says event_forms 0 vs text → train_of trains vs ≡ Ok x → Made 0 vs x
+train_made : (trains : List ℕ) (vs text : List ℕ) (x : Event) → Says event_forms 0 vs text → train_of trains vs ≡ Ok x → Made 0 vs x
 unfolding Says event_forms Fit PartFits
 train_made trains (t ∷ len ∷ err ∷ v ∷ kind ∷ []) text x s h =
     made_by 0 (t ∷ len ∷ err ∷ v ∷ kind ∷ []) (is.Train (train_id t) len err v (kind_of kind)) x refl
@@ -90,7 +90,7 @@ train_made trains (t ∷ len ∷ err ∷ v ∷ kind ∷ []) text x s h =
     (tried_ok _ 4 _ x (tried_ok _ 3 _ x (tried_ok _ 2 _ x (tried_ok _ 1 _ x h))))
 train_made trains vs text x s h = absurd cc
 
-entry_made : (line : Line) (trains : List TrainId) (vs text : List ℕ) (x : ScriptEvent) → Says event_forms 1 vs text → entry_of line trains vs ≡ Ok x → Made 1 vs x
+entry_made : (line : Line) (trains : List ℕ) (vs text : List ℕ) (x : Event) → Says event_forms 1 vs text → entry_of line trains vs ≡ Ok x → Made 1 vs x
 unfolding Says event_forms Fit PartFits
 entry_made line trains (t ∷ s ∷ sign ∷ []) text x q h =
     made_by 1 (t ∷ s ∷ sign ∷ []) (is.Entry (train_id t) (step_of s sign)) x refl
@@ -98,11 +98,11 @@ entry_made line trains (t ∷ s ∷ sign ∷ []) text x q h =
     (tried_ok _ 2 _ x (tried_ok _ 1 _ x h))
 entry_made line trains vs text x q h = absurd cc
 
-enter_made : (trains : List TrainId) (vs : List ℕ) (x : ScriptEvent) → enter_of trains vs ≡ Ok x → Made 2 vs x
+enter_made : (trains : List ℕ) (vs : List ℕ) (x : Event) → enter_of trains vs ≡ Ok x → Made 2 vs x
 enter_made trains (t ∷ []) x h = made_by 2 (t ∷ []) (is.Enter (train_id t)) x refl refl (tried_ok _ 1 _ x h)
 enter_made trains vs x h = absurd cc
 
-report_made : (line : Line) (trains : List TrainId) (vs text : List ℕ) (x : ScriptEvent) → Says event_forms 4 vs text → report_of line trains vs ≡ Ok x → Made 4 vs x
+report_made : (line : Line) (trains : List ℕ) (vs text : List ℕ) (x : Event) → Says event_forms 4 vs text → report_of line trains vs ≡ Ok x → Made 4 vs x
 unfolding Says event_forms Fit PartFits
 report_made line trains (t ∷ z ∷ s ∷ sign ∷ off ∷ flag ∷ []) text x q h =
     let four = tried_ok _ 4 _ x (tried_ok _ 3 _ x (tried_ok _ 2 _ x (tried_ok _ 1 _ x h))) in
@@ -113,35 +113,35 @@ report_made line trains (t ∷ z ∷ s ∷ sign ∷ off ∷ flag ∷ []) text x 
     (tried_ok _ 5 _ x four)
 report_made line trains vs text x q h = absurd cc
 
-detect_made : (line : Line) (vs : List ℕ) (x : ScriptEvent) → detect_of line vs ≡ Ok x → Made 5 vs x
+detect_made : (line : Line) (vs : List ℕ) (x : Event) → detect_of line vs ≡ Ok x → Made 5 vs x
 detect_made line (d ∷ shown ∷ []) x h = absurd cc
 detect_made line vs x h = absurd cc
 
-scan_made : (vs : List ℕ) (x : ScriptEvent) → scan_of vs ≡ Ok x → Made 6 vs x
+scan_made : (vs : List ℕ) (x : Event) → scan_of vs ≡ Ok x → Made 6 vs x
 scan_made [] x h = made_by 6 [] is.Scan x refl refl h
 scan_made (v ∷ vs) x h = absurd cc
 
-time_made : (line : Line) (trains : List TrainId) (vs : List ℕ) (x : ScriptEvent) → time_of line trains vs ≡ Ok x → Made 7 vs x
+time_made : (line : Line) (trains : List ℕ) (vs : List ℕ) (x : Event) → time_of line trains vs ≡ Ok x → Made 7 vs x
 time_made line trains (z ∷ t ∷ []) x h = made_by 7 (z ∷ t ∷ []) (is.Time (record { 0 = z }) (train_id t)) x refl refl (tried_ok _ 2 _ x (tried_ok _ 1 _ x h))
 time_made line trains vs x h = absurd cc
 
-close_made : (line : Line) (vs : List ℕ) (x : ScriptEvent) → close_of line vs ≡ Ok x → Made 9 vs x
+close_made : (line : Line) (vs : List ℕ) (x : Event) → close_of line vs ≡ Ok x → Made 9 vs x
 close_made line (s ∷ []) x h = made_by 9 (s ∷ []) (is.Close (record { 0 = s })) x refl refl (tried_ok _ 2 _ x h)
 close_made line vs x h = absurd cc
 
-open_made : (line : Line) (vs : List ℕ) (x : ScriptEvent) → open_of line vs ≡ Ok x → Made 10 vs x
+open_made : (line : Line) (vs : List ℕ) (x : Event) → open_of line vs ≡ Ok x → Made 10 vs x
 open_made line (s ∷ []) x h = made_by 10 (s ∷ []) (is.Open (record { 0 = s })) x refl refl (tried_ok _ 2 _ x h)
 open_made line vs x h = absurd cc
 
-turn_made : (line : Line) (vs : List ℕ) (x : ScriptEvent) → turn_of line vs ≡ Ok x → Made 11 vs x
+turn_made : (line : Line) (vs : List ℕ) (x : Event) → turn_of line vs ≡ Ok x → Made 11 vs x
 turn_made line (b ∷ sign ∷ []) x h = absurd cc
 turn_made line vs x h = absurd cc
 
-set_made : (line : Line) (vs : List ℕ) (x : ScriptEvent) → set_of line vs ≡ Ok x → Made 12 vs x
+set_made : (line : Line) (vs : List ℕ) (x : Event) → set_of line vs ≡ Ok x → Made 12 vs x
 set_made line (w ∷ position ∷ []) x h = absurd cc
 set_made line vs x h = absurd cc
 
-shorten_made : (line : Line) (trains : List TrainId) (vs text : List ℕ) (x : ScriptEvent) → Says event_forms 13 vs text → shorten_of line trains vs ≡ Ok x → Made 13 vs x
+shorten_made : (line : Line) (trains : List ℕ) (vs text : List ℕ) (x : Event) → Says event_forms 13 vs text → shorten_of line trains vs ≡ Ok x → Made 13 vs x
 unfolding Says event_forms Fit PartFits
 shorten_made line trains (z ∷ t ∷ s ∷ sign ∷ off ∷ []) text x q h =
     made_by 13 (z ∷ t ∷ s ∷ sign ∷ off ∷ []) (is.Shorten (record { 0 = z }) (train_id t) (step_of s sign) off) x refl
@@ -149,27 +149,27 @@ shorten_made line trains (z ∷ t ∷ s ∷ sign ∷ off ∷ []) text x q h =
     (tried_ok _ 5 _ x (tried_ok _ 4 _ x (tried_ok _ 3 _ x (tried_ok _ 2 _ x h))))
 shorten_made line trains vs text x q h = absurd cc
 
-echo_made : (line : Line) (vs : List ℕ) (x : ScriptEvent) → echo_of line vs ≡ Ok x → Made 14 vs x
+echo_made : (line : Line) (vs : List ℕ) (x : Event) → echo_of line vs ≡ Ok x → Made 14 vs x
 echo_made line (w ∷ []) x h = absurd cc
 echo_made line vs x h = absurd cc
 
-leave_made : (trains : List TrainId) (vs : List ℕ) (x : ScriptEvent) → leave_of trains vs ≡ Ok x → Made 15 vs x
+leave_made : (trains : List ℕ) (vs : List ℕ) (x : Event) → leave_of trains vs ≡ Ok x → Made 15 vs x
 leave_made trains (t ∷ []) x h = made_by 15 (t ∷ []) (is.Leave (train_id t)) x refl refl (tried_ok _ 1 _ x h)
 leave_made trains vs x h = absurd cc
 
-take_made : (line : Line) (vs : List ℕ) (x : ScriptEvent) → take_of line vs ≡ Ok x → Made 16 vs x
+take_made : (line : Line) (vs : List ℕ) (x : Event) → take_of line vs ≡ Ok x → Made 16 vs x
 take_made line (to ∷ from ∷ n ∷ []) x h = made_by 16 (to ∷ from ∷ n ∷ []) (is.Take to from n) x refl refl (tried_ok _ 3 _ x (tried_ok _ 2 _ x (tried_ok _ 1 _ x h)))
 take_made line vs x h = absurd cc
 
-deliver_made : (line : Line) (vs : List ℕ) (x : ScriptEvent) → deliver_of line vs ≡ Ok x → Made 17 vs x
+deliver_made : (line : Line) (vs : List ℕ) (x : Event) → deliver_of line vs ≡ Ok x → Made 17 vs x
 deliver_made line (to ∷ []) x h = made_by 17 (to ∷ []) (is.Deliver to) x refl refl (tried_ok _ 1 _ x h)
 deliver_made line vs x h = absurd cc
 
-restart_made : (line : Line) (vs : List ℕ) (x : ScriptEvent) → restart_of line vs ≡ Ok x → Made 18 vs x
+restart_made : (line : Line) (vs : List ℕ) (x : Event) → restart_of line vs ≡ Ok x → Made 18 vs x
 restart_made line (z ∷ []) x h = made_by 18 (z ∷ []) (is.Restart (record { 0 = z })) x refl refl (tried_ok _ 1 _ x h)
 restart_made line vs x h = absurd cc
 
-keep_fail_made : (line : Line) (vs text : List ℕ) (x : ScriptEvent) → Says event_forms 19 vs text → keep_fail_of line vs ≡ Ok x → Made 19 vs x
+keep_fail_made : (line : Line) (vs text : List ℕ) (x : Event) → Says event_forms 19 vs text → keep_fail_of line vs ≡ Ok x → Made 19 vs x
 unfolding Says event_forms Fit PartFits
 keep_fail_made line (z ∷ fault ∷ []) text x s h =
     made_by 19 (z ∷ fault ∷ []) (is.KeepFail (record { 0 = z }) (keep_of fault)) x refl
@@ -177,15 +177,15 @@ keep_fail_made line (z ∷ fault ∷ []) text x s h =
     (tried_ok _ 1 _ x h)
 keep_fail_made line vs text x s h = absurd cc
 
-noise_made : (line : Line) (vs : List ℕ) (x : ScriptEvent) → noise_of line vs ≡ Ok x → Made 20 vs x
+noise_made : (line : Line) (vs : List ℕ) (x : Event) → noise_of line vs ≡ Ok x → Made 20 vs x
 noise_made line (to ∷ from ∷ bytes) x h = made_by 20 (to ∷ from ∷ bytes) (is.Noise to from (record { items = bytes })) x refl refl (tried_ok _ 2 _ x (tried_ok _ 1 _ x h))
 noise_made line vs x h = absurd cc
 
-round_made : (vs : List ℕ) (x : ScriptEvent) → round_of vs ≡ Ok x → Made 21 vs x
+round_made : (vs : List ℕ) (x : Event) → round_of vs ≡ Ok x → Made 21 vs x
 round_made (n ∷ []) x h = made_by 21 (n ∷ []) (is.Round n) x refl refl (tried_ok _ 1 _ x h)
 round_made vs x h = absurd cc
 
-lost_made : (line : Line) (vs : List ℕ) (x : ScriptEvent) → lost_of line vs ≡ Ok x → Made 22 vs x
+lost_made : (line : Line) (vs : List ℕ) (x : Event) → lost_of line vs ≡ Ok x → Made 22 vs x
 lost_made line (from ∷ to ∷ n ∷ []) x h = made_by 22 (from ∷ to ∷ n ∷ []) (is.Lost from to n) x refl refl (tried_ok _ 3 _ x (tried_ok _ 2 _ x (tried_ok _ 1 _ x h)))
 lost_made line vs x h = absurd cc
 
@@ -200,7 +200,7 @@ move_ok : (m : TrainId × ℕ) (r : Result (List (TrainId × ℕ)) ℕ) (moves :
 move_ok m (Ok later) moves h = record { later = later; read = refl; all = same (m ∷ later) moves h }
 move_ok m (Err k) moves h = absurd cc
 
-moves_made : (trains : List TrainId) (more last k : ℕ) (vs : List ℕ) (moves : List (TrainId × ℕ)) → moves_of trains more last k vs ≡ Ok moves → move_values moves ≡ vs
+moves_made : (trains : List ℕ) (more last k : ℕ) (vs : List ℕ) (moves : List (TrainId × ℕ)) → moves_of trains more last k vs ≡ Ok moves → move_values moves ≡ vs
 unfolding moves_of move_values
 moves_made trains more last k [] moves h = ap move_values (sym (same [] moves h))
 moves_made trains more last k (t ∷ []) moves h = absurd cc
@@ -209,11 +209,11 @@ moves_made trains (suc more) last k (t ∷ mm ∷ vs) moves h =
     let m = move_ok (train_id t, mm) (moves_of trains more t (k + 2) vs) moves (tried_ok _ (k + 1) _ moves (tried_ok _ k _ moves h)) in
     ap move_values (sym m.all) ∙ ap (λ xs. t ∷ mm ∷ xs) (moves_made trains more t (k + 2) vs m.later m.read)
 
-step_by : (ms : ℕ) (vs : List ℕ) (r : Result (List (TrainId × ℕ)) ℕ) (x : ScriptEvent) → ((moves : List (TrainId × ℕ)) → r ≡ Ok moves → move_values moves ≡ vs) → and_ms ms r ≡ Ok x → Made 3 (ms ∷ vs) x
+step_by : (ms : ℕ) (vs : List ℕ) (r : Result (List (TrainId × ℕ)) ℕ) (x : Event) → ((moves : List (TrainId × ℕ)) → r ≡ Ok moves → move_values moves ≡ vs) → and_ms ms r ≡ Ok x → Made 3 (ms ∷ vs) x
 step_by ms vs (Ok moves) x f h = made_by 3 (ms ∷ vs) (is.Step ms (record { items = moves })) x refl (ap (λ xs. ms ∷ xs) (f moves refl)) h
 step_by ms vs (Err k) x f h = absurd cc
 
-step_made : (trains : List TrainId) (vs : List ℕ) (x : ScriptEvent) → step_event_of trains vs ≡ Ok x → Made 3 vs x
+step_made : (trains : List ℕ) (vs : List ℕ) (x : Event) → step_event_of trains vs ≡ Ok x → Made 3 vs x
 step_made trains (ms ∷ vs) x h = step_by ms vs (moves_of trains 256 0 2 vs) x (λ moves e. moves_made trains 256 0 2 vs moves e) (tried_ok _ 1 _ x h)
 step_made trains [] x h = absurd cc
 
@@ -251,7 +251,7 @@ asked_made line k (s ∷ sign ∷ vs) x f h =
     let m = steps_ok (step_of s sign) (asked_of line (k + 1) vs) x (tried_ok _ k _ x h) in
     ap asked_values (sym m.all) ∙ (ap (λ n. s ∷ n ∷ asked_values m.later) (sign_again sign f.0) ∙ ap (λ xs. s ∷ sign ∷ xs) (asked_made line (k + 1) vs m.later f.1 m.read))
 
-ask_by : (t z : ℕ) (vs : List ℕ) (r : Result (List DirSeg × ℕ) ℕ) (x : ScriptEvent) → ((y : List DirSeg × ℕ) → r ≡ Ok y → asked_values y ≡ vs) → and_asks t z r ≡ Ok x → Made 8 (t ∷ z ∷ vs) x
+ask_by : (t z : ℕ) (vs : List ℕ) (r : Result (List DirSeg × ℕ) ℕ) (x : Event) → ((y : List DirSeg × ℕ) → r ≡ Ok y → asked_values y ≡ vs) → and_asks t z r ≡ Ok x → Made 8 (t ∷ z ∷ vs) x
 ask_by t z vs (Ok y) x f h = made_by 8 (t ∷ z ∷ vs) (is.Ask (train_id t) (record { 0 = z }) (record { items = y.0 }) y.1) x refl (ap (λ xs. t ∷ z ∷ xs) (f y refl)) h
 ask_by t z vs (Err k) x f h = absurd cc
 
@@ -259,18 +259,18 @@ ask_signs : (t z n : ℕ) (vs text : List ℕ) → Says event_forms 8 (t ∷ z �
 unfolding Says event_forms Fit
 ask_signs t z n vs text s = signs_fit s.count n vs s.fit.1.1.1
 
-ask_made : (line : Line) (trains : List TrainId) (vs text : List ℕ) (x : ScriptEvent) → Says event_forms 8 vs text → ask_of line trains vs ≡ Ok x → Made 8 vs x
+ask_made : (line : Line) (trains : List ℕ) (vs text : List ℕ) (x : Event) → Says event_forms 8 vs text → ask_of line trains vs ≡ Ok x → Made 8 vs x
 unfolding asked_of
 ask_made line trains (t ∷ z ∷ []) text x s h = absurd (bare (tried_ok _ 2 _ x (tried_ok _ 1 _ x h)))
   where
-    bare : ◌≡◌ {A = Result ScriptEvent ℕ} (Err 3) (Ok x) → ⊥
+    bare : ◌≡◌ {A = Result Event ℕ} (Err 3) (Ok x) → ⊥
     bare e = cc
 ask_made line trains (t ∷ z ∷ n ∷ vs) text x s h =
     ask_by t z (n ∷ vs) (asked_of line 3 (n ∷ vs)) x (λ y e. asked_made line 3 (n ∷ vs) y (ask_signs t z n vs text s) e) (tried_ok _ 2 _ x (tried_ok _ 1 _ x h))
 ask_made line trains vs text x s h = absurd cc
 
 -- by the places of the table
-pub event_made : (line : Line) (trains : List TrainId) (i : ℕ) (vs text : List ℕ) (x : ScriptEvent) → Says event_forms i vs text → event_of line trains i vs ≡ Ok x → Made i vs x
+pub event_made : (line : Line) (trains : List ℕ) (i : ℕ) (vs text : List ℕ) (x : Event) → Says event_forms i vs text → event_of line trains i vs ≡ Ok x → Made i vs x
 unfolding event_of
 event_made line trains zero vs text x s h = train_made trains vs text x s h
 event_made line trains (suc zero) vs text x s h = entry_made line trains vs text x s h

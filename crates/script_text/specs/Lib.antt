@@ -1,3 +1,2 @@
-pub mod EventFields
-pub mod EventText
 pub mod Sees
+pub mod Trains

@@ -1,8 +1,9 @@
 //! What the fields of events may name.
 ghost use Rattle.std.specs.Prelude.{◌≡◌, ◌≤◌, ◌||◌, ◌&&◌, true, nat_eq};
 ghost use Rattle.definitions.specs.Track.{Line, ranged, has_zone, has_segment, begins_at_portal};
-ghost use Rattle.script_text.specs.EventFields.{has_train, names_train, names_zone, names_segment, names_actor, names_section, names_block, names_switch};
+ghost use Rattle.definitions.specs.EventFields.{names_train, names_zone, names_segment, names_actor, names_section, names_block, names_switch};
 
+use definitions::trains::DeclaredTrains;
 use line_map::Line;
 use track_points::{Dir, DirSeg, SegId, TrainId, ZoneId};
 
@@ -14,27 +15,12 @@ pub(crate) fn is_ranged(lo: u64, hi: u64, n: u64) -> bool
     lo <= n && n <= hi
 }
 
-/// Whether a train is among those declared.
-#[tactic(auto, unfolding(crate::specs::EventFields::has_train))]
-pub(crate) fn is_among(trains: &[TrainId], train: u64) -> bool
-    ensures { result ≡ has_train trains.now train }
-{
-    let [first, others @ ..] = trains else {
-        return false;
-    };
-    if first.0 as u64 == train {
-        true
-    } else {
-        is_among(others, train)
-    }
-}
-
 /// Whether a number is that of a declared train.
-pub(crate) fn is_train(trains: &[TrainId], train: u64) -> bool
-    ensures is { result ≡ names_train trains.now train }
+pub(crate) fn is_train<T: DeclaredTrains>(trains: &T, train: u64) -> bool
+    ensures is { result ≡ names_train (T.known trains.now) train }
     ensures most { result ≡ true → train ≤ 65535 }
 {
-    is_ranged(1, 65535, train) && is_among(trains, train)
+    is_ranged(1, 65535, train) && trains.has(TrainId(train as u16))
 }
 
 /// Whether a number is that of a zone of the line.
@@ -64,7 +50,7 @@ pub(crate) fn is_actor(line: &Line, actor: u64) -> bool
 /// A step from its number and its sign.
 pub(crate) fn step_of(segment: u64, sign: u64) -> DirSeg
     requires { segment ≤ 65535 }
-    ensures { result ≡ Rattle.script_text.specs.EventFields.step_of segment sign }
+    ensures { result ≡ Rattle.definitions.specs.EventFields.step_of segment sign }
 {
     let dir = if sign == 0 { Dir::Up } else { Dir::Down };
     DirSeg {
@@ -76,7 +62,7 @@ pub(crate) fn step_of(segment: u64, sign: u64) -> DirSeg
 /// Whether a step goes inward from a portal.
 pub(crate) fn begins(line: &Line, segment: u64, sign: u64) -> bool
     requires { segment ≤ 65535 }
-    ensures { result ≡ begins_at_portal line.now (Rattle.script_text.specs.EventFields.step_of segment sign) }
+    ensures { result ≡ begins_at_portal line.now (Rattle.definitions.specs.EventFields.step_of segment sign) }
 {
     line.begins_at_portal(step_of(segment, sign))
 }

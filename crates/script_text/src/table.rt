@@ -1,14 +1,14 @@
 //! The table of the forms of events.
 ghost use Rattle.std.specs.Prelude.{◌≡◌};
 ghost use Rattle.text_forms.specs.Rows.{forms};
-ghost use Rattle.script_text.specs.EventText.{event_forms};
+ghost use Rattle.definitions.specs.EventText.{event_forms};
 
 use Part::{Byte, FirstByte, Number, Sign, Signed, Word};
 use text_forms::part::{Part, Words};
 use text_forms::row::Row;
 
 /// The forms, by the places of the events.
-#[tactic(auto, unfolding(crate::specs::EventText::event_forms))]
+#[tactic(auto, unfolding(definitions::specs::EventText::event_forms))]
 pub(crate) fn event_rows() -> &'static [Row]
     ensures { forms result.now ≡ event_forms }
 {

@@ -1,8 +1,10 @@
 //! Events as text, and the columns of texts that are none or have a refused field. The trains 7 and 8 are declared, on a line of
 //! one zone and two segments with a portal.
 
-use crate::{read_event, write_event};
+use crate::slice::Listed;
+use crate::{Values, event_line, read_event, write_event};
 use arrayvec::ArrayVec;
+use definitions::document::EventLine;
 use definitions::item::{End, Item};
 use edge_io::memory::VecSink;
 use line_map::{Line, LineBuilder, LineFault};
@@ -90,6 +92,21 @@ const REFUSED: &str = "11 take 1 0 01
 8 lost 0 0 1
 10 lost 1 0 0";
 
+/// What each text line says, and the text line: a column, or one of the words.
+const LINES: &str = "passed\x20
+passed #
+unbuilt noise 1 1 00
+unbuilt order close 9
+unbuilt train 7 60 2 20 un
+7 train 7 60 2 20 eq
+event train 9 60 2 20 eq
+7 enter 9
+5 entr
+event step 5 8 3600000
+10 step 5 7 3600001
+9 ask 7 1 3+ 5
+event ask 7 1 1+ 2+ 5";
+
 /// An end of a segment.
 fn end_of(segment: u64, dir: Dir) -> End {
     End { segment, dir }
@@ -158,6 +175,37 @@ fn others_are_refused_at_their_columns(rt: HostRuntime) {
     };
     for row in REFUSED.split('\n') {
         try_refused(&rt, row, &line);
+    }
+}
+
+/// Whether a text line says this.
+fn says(told: &str, says: &EventLine) -> bool {
+    match says {
+        EventLine::Passed => told == "passed",
+        EventLine::Unbuilt => told == "unbuilt",
+        EventLine::Event(_) => told == "event",
+        EventLine::Fault(column) => told.parse::<u32>().ok() == Some(*column),
+    }
+}
+
+#[test]
+fn text_lines_say_what_they_are(rt: HostRuntime) {
+    let Ok(line) = line_of(rt.alloc()) else {
+        panic!(rt; "no line");
+    };
+    let trains = [TrainId(7), TrainId(8)];
+    let declared = Listed { trains: &trains };
+    let mut values: Values = ArrayVec::new();
+    let mut here = EventLine::Passed;
+    for row in LINES.split('\n') {
+        let holds = match row.split_once(' ') {
+            Some((told, text)) => {
+                event_line(text.as_bytes(), &line, &declared, &mut values, &mut here);
+                says(told, &here)
+            }
+            None => false,
+        };
+        assert!(rt; holds, "{row}");
     }
 }
 

@@ -2,11 +2,11 @@
 ghost use Rattle.std.specs.Prelude.{◌≡◌, ◌≤◌, ◌+◌, ◌*◌, ◌++◌, ◌∷◌, [], length, ℕ, List};
 ghost use Rattle.arrayvec.specs.ArrayVec.{array_vec_len};
 ghost use Rattle.definitions.specs.ItemText.{sign_value};
-ghost use Rattle.script_text.specs.EventText.{event_place, event_values, step_values, move_values};
+ghost use Rattle.definitions.specs.EventText.{event_place, event_values, step_values, move_values};
 
-use crate::event::{KeepFail, Occupancy, Position, ScriptEvent, TrainKind};
 use arrayvec::ArrayVec;
-use track_points::{Dir, DirSeg, TrainId};
+use definitions::event::{Event, KeepFail, Kind, Occupancy};
+use track_points::{Dir, DirSeg, Position, TrainId};
 
 /// The values of an event; a step with 256 moves has the most.
 pub(crate) type EventValues = ArrayVec<u64, 513>;
@@ -22,18 +22,18 @@ fn sign_of(dir: Dir) -> u64
 }
 
 /// The value of a train's kind.
-fn kind_value(kind: TrainKind) -> u64
-    ensures { result ≡ Rattle.script_text.specs.EventText.kind_value kind }
+fn kind_value(kind: Kind) -> u64
+    ensures { result ≡ Rattle.definitions.specs.EventText.kind_value kind }
 {
     match kind {
-        TrainKind::Equipped => 0,
-        TrainKind::Unequipped => 1,
+        Kind::Equipped => 0,
+        Kind::Unequipped => 1,
     }
 }
 
 /// The value of what a section shows.
 fn occupancy_value(shown: Occupancy) -> u64
-    ensures { result ≡ Rattle.script_text.specs.EventText.occupancy_value shown }
+    ensures { result ≡ Rattle.definitions.specs.EventText.occupancy_value shown }
 {
     match shown {
         Occupancy::Free => 0,
@@ -43,7 +43,7 @@ fn occupancy_value(shown: Occupancy) -> u64
 
 /// The value of a switch's position.
 fn position_value(position: Position) -> u64
-    ensures { result ≡ Rattle.script_text.specs.EventText.position_value position }
+    ensures { result ≡ Rattle.definitions.specs.EventText.position_value position }
 {
     match position {
         Position::Normal => 0,
@@ -53,7 +53,7 @@ fn position_value(position: Position) -> u64
 
 /// The value of a keeper's failure.
 fn keep_value(fault: KeepFail) -> u64
-    ensures { result ≡ Rattle.script_text.specs.EventText.keep_value fault }
+    ensures { result ≡ Rattle.definitions.specs.EventText.keep_value fault }
 {
     match fault {
         KeepFail::PutOld => 0,
@@ -64,14 +64,14 @@ fn keep_value(fault: KeepFail) -> u64
 
 /// The value of a flag.
 fn flag_value(flag: bool) -> u64
-    ensures { result ≡ Rattle.script_text.specs.EventText.flag_value flag }
+    ensures { result ≡ Rattle.definitions.specs.EventText.flag_value flag }
 {
     if flag { 1 } else { 0 }
 }
 
 /// The value of an offset that may be negative.
 fn offset_value(offset: i32) -> u64
-    ensures { result ≡ Rattle.script_text.specs.EventText.offset_value offset }
+    ensures { result ≡ Rattle.definitions.specs.EventText.offset_value offset }
 {
     let size = offset.unsigned_abs() as u64;
     if offset < 0 {
@@ -99,7 +99,7 @@ fn add_step(values: &mut EventValues, step: DirSeg)
 }
 
 /// Adds the number and the sign of each step, and then a number.
-#[tactic(auto, unfolding(crate::specs::EventText::step_values))]
+#[tactic(auto, unfolding(definitions::specs::EventText::step_values))]
 fn add_steps(values: &mut EventValues, steps: &[DirSeg], to: u64)
     requires { array_vec_len values.old + 2 * length steps.now + 1 ≤ 513 }
     ensures { values.new.items ≡ values.old.items ++ step_values steps.now (to ∷ []) }
@@ -113,7 +113,7 @@ fn add_steps(values: &mut EventValues, steps: &[DirSeg], to: u64)
 }
 
 /// Adds the train and the mm of each move.
-#[tactic(auto, unfolding(crate::specs::EventText::move_values))]
+#[tactic(auto, unfolding(definitions::specs::EventText::move_values))]
 fn add_moves(values: &mut EventValues, moves: &[(TrainId, u32)])
     requires { array_vec_len values.old + 2 * length moves.now ≤ 513 }
     ensures { values.new.items ≡ values.old.items ++ move_values moves.now }
@@ -139,43 +139,43 @@ fn add_bytes(values: &mut EventValues, bytes: &[u8])
 }
 
 /// The place of an event's form in the table.
-pub(crate) fn place_of(event: &ScriptEvent) -> usize
+pub(crate) fn place_of(event: &Event) -> usize
     ensures { result ≡ event_place event.now }
 {
     match event {
-        ScriptEvent::Train(..) => 0,
-        ScriptEvent::Entry(..) => 1,
-        ScriptEvent::Enter(..) => 2,
-        ScriptEvent::Step(..) => 3,
-        ScriptEvent::Report(..) => 4,
-        ScriptEvent::Detect(..) => 5,
-        ScriptEvent::Scan => 6,
-        ScriptEvent::Time(..) => 7,
-        ScriptEvent::Ask(..) => 8,
-        ScriptEvent::Close(..) => 9,
-        ScriptEvent::Open(..) => 10,
-        ScriptEvent::Turn(..) => 11,
-        ScriptEvent::Set(..) => 12,
-        ScriptEvent::Shorten(..) => 13,
-        ScriptEvent::Echo(..) => 14,
-        ScriptEvent::Leave(..) => 15,
-        ScriptEvent::Take(..) => 16,
-        ScriptEvent::Deliver(..) => 17,
-        ScriptEvent::Restart(..) => 18,
-        ScriptEvent::KeepFail(..) => 19,
-        ScriptEvent::Noise(..) => 20,
-        ScriptEvent::Round(..) => 21,
-        ScriptEvent::Lost(..) => 22,
+        Event::Train(..) => 0,
+        Event::Entry(..) => 1,
+        Event::Enter(..) => 2,
+        Event::Step(..) => 3,
+        Event::Report(..) => 4,
+        Event::Detect(..) => 5,
+        Event::Scan => 6,
+        Event::Time(..) => 7,
+        Event::Ask(..) => 8,
+        Event::Close(..) => 9,
+        Event::Open(..) => 10,
+        Event::Turn(..) => 11,
+        Event::Set(..) => 12,
+        Event::Shorten(..) => 13,
+        Event::Echo(..) => 14,
+        Event::Leave(..) => 15,
+        Event::Take(..) => 16,
+        Event::Deliver(..) => 17,
+        Event::Restart(..) => 18,
+        Event::KeepFail(..) => 19,
+        Event::Noise(..) => 20,
+        Event::Round(..) => 21,
+        Event::Lost(..) => 22,
     }
 }
 
 /// The values of an event.
-pub(crate) fn values_of(event: &ScriptEvent) -> EventValues
+pub(crate) fn values_of(event: &Event) -> EventValues
     ensures { result.items ≡ event_values event.now }
 {
     let mut values: EventValues = ArrayVec::new();
     match event {
-        ScriptEvent::Train(train, length, error, speed, kind) => add(
+        Event::Train(train, length, error, speed, kind) => add(
             &mut values,
             &[
                 train.0 as u64,
@@ -185,58 +185,58 @@ pub(crate) fn values_of(event: &ScriptEvent) -> EventValues
                 kind_value(*kind),
             ],
         ),
-        ScriptEvent::Entry(train, step) => {
+        Event::Entry(train, step) => {
             values.push(train.0 as u64);
             add_step(&mut values, *step);
         }
-        ScriptEvent::Enter(train) | ScriptEvent::Leave(train) => values.push(train.0 as u64),
-        ScriptEvent::Step(ms, moves) => {
+        Event::Enter(train) | Event::Leave(train) => values.push(train.0 as u64),
+        Event::Step(ms, moves) => {
             values.push(*ms as u64);
             add_moves(&mut values, moves.as_slice());
         }
-        ScriptEvent::Report(train, zone, step, off, whole) => {
+        Event::Report(train, zone, step, off, whole) => {
             add(&mut values, &[train.0 as u64, zone.0 as u64]);
             add_step(&mut values, *step);
             add(&mut values, &[offset_value(*off), flag_value(*whole)]);
         }
-        ScriptEvent::Detect(section, shown) => {
+        Event::Detect(section, shown) => {
             add(&mut values, &[section.0 as u64, occupancy_value(*shown)]);
         }
-        ScriptEvent::Scan => (),
-        ScriptEvent::Time(zone, train) => add(&mut values, &[zone.0 as u64, train.0 as u64]),
-        ScriptEvent::Ask(train, zone, steps, to) => {
+        Event::Scan => (),
+        Event::Time(zone, train) => add(&mut values, &[zone.0 as u64, train.0 as u64]),
+        Event::Ask(train, zone, steps, to) => {
             add(&mut values, &[train.0 as u64, zone.0 as u64]);
             add_steps(&mut values, steps.as_slice(), *to as u64);
         }
-        ScriptEvent::Close(segment) | ScriptEvent::Open(segment) => {
+        Event::Close(segment) | Event::Open(segment) => {
             values.push(segment.0 as u64);
         }
-        ScriptEvent::Turn(block, dir) => add(&mut values, &[block.0 as u64, sign_of(*dir)]),
-        ScriptEvent::Set(switch, position) => {
+        Event::Turn(block, dir) => add(&mut values, &[block.0 as u64, sign_of(*dir)]),
+        Event::Set(switch, position) => {
             add(&mut values, &[switch.0 as u64, position_value(*position)]);
         }
-        ScriptEvent::Shorten(zone, train, step, off) => {
+        Event::Shorten(zone, train, step, off) => {
             add(&mut values, &[zone.0 as u64, train.0 as u64]);
             add_step(&mut values, *step);
             values.push(*off as u64);
         }
-        ScriptEvent::Echo(switch) => values.push(switch.0 as u64),
-        ScriptEvent::Take(first, second, number) | ScriptEvent::Lost(first, second, number) => {
+        Event::Echo(switch) => values.push(switch.0 as u64),
+        Event::Take(first, second, number) | Event::Lost(first, second, number) => {
             add(
                 &mut values,
                 &[*first as u64, *second as u64, *number as u64],
             );
         }
-        ScriptEvent::Deliver(to) => values.push(*to as u64),
-        ScriptEvent::Restart(zone) => values.push(zone.0 as u64),
-        ScriptEvent::KeepFail(zone, fault) => {
+        Event::Deliver(to) => values.push(*to as u64),
+        Event::Restart(zone) => values.push(zone.0 as u64),
+        Event::KeepFail(zone, fault) => {
             add(&mut values, &[zone.0 as u64, keep_value(*fault)]);
         }
-        ScriptEvent::Noise(to, from, bytes) => {
+        Event::Noise(to, from, bytes) => {
             add(&mut values, &[*to as u64, *from as u64]);
             add_bytes(&mut values, bytes.as_slice());
         }
-        ScriptEvent::Round(number) => values.push(*number as u64),
+        Event::Round(number) => values.push(*number as u64),
     }
     values
 }

@@ -13,18 +13,18 @@ use Rattle.definitions.specs.Zones.{zone_id}
 use Rattle.motion_laws.proofs.Motion.{Timed}
 use Rattle.event_laws.proofs.Issued.{AllIssued}
 use Rattle.event_laws.proofs.Admitted.{Admitted}
-use Rattle.event_laws.proofs.Does.{effect_event}
-use Rattle.motion_laws.proofs.Moves.{enter_once}
+use Rattle.event_laws.proofs.By_does.{effect_event}
+use Rattle.motion_laws.proofs.Head_step.{enter_once}
 use Rattle.invariant_laws.proofs.Invariant.{RequestTrue, Authorized, Invariant}
-use Rattle.event_laws.proofs.Last_issued.{last_grows}
-use Rattle.authority_laws.proofs.Auth_new.{counted_next}
-use Rattle.authority_laws.proofs.Auth_quiet.{Going}
+use Rattle.event_laws.proofs.Last_quiet.{last_grows}
+use Rattle.authority_laws.proofs.New_auth.{counted_next}
+use Rattle.authority_laws.proofs.Auths_stay.{Going}
 use Rattle.step_laws.proofs.Limit_stays.{going, number_grows}
-use Rattle.step_laws.proofs.Auth_requests.{requests_stay, effect_requests}
-use Rattle.step_laws.proofs.Auth_issues.{Issues}
-use Rattle.step_laws.proofs.Auth_takes.{effect_issues}
-use Rattle.step_laws.proofs.Auth_taken.{TookIs, effect_took_is}
-use Rattle.step_laws.proofs.Auth_parts.{long_next, uncounted_next, alone_next, unknown_next, unshrunk_next, unread_next, reads_next, rising_next, stay_next, controlled_next, auths_next, entry_next, came_next, limit_after, last_next}
+use Rattle.step_laws.proofs.Requests_stay.{requests_stay, effect_requests}
+use Rattle.step_laws.proofs.Issues.{Issues}
+use Rattle.step_laws.proofs.Effect_issues.{effect_issues}
+use Rattle.step_laws.proofs.Effect_took_is.{TookIs, effect_took_is}
+use Rattle.step_laws.proofs.Controlled_next.{long_next, uncounted_next, alone_next, unknown_next, unshrunk_next, unread_next, reads_next, rising_next, stay_next, controlled_next, auths_next, entry_next, came_next, limit_after, last_next}
 
 pub authorized_start : (line : Line) (t : ℕ) → Authorized line t []
 unfolding first_told ever controls greatest_issued account last_number AllIssued

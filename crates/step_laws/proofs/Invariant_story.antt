@@ -8,16 +8,16 @@ use Rattle.definitions.specs.Steps.{effects, story_of}
 use Rattle.std.specs.Prelude.{nat_eq}
 use Rattle.definitions.specs.Fold.{account}
 use Rattle.definitions.specs.Zones.{zone_id}
-use Rattle.front_laws.proofs.Account_moves.{none_taken}
-use Rattle.front_laws.proofs.Front_step.{takes_some}
+use Rattle.front_laws.proofs.Taken_counts.{none_taken}
+use Rattle.front_laws.proofs.Fronts_step.{takes_some}
 use Rattle.event_laws.proofs.Admitted.{Admitted, admitted}
 use Rattle.motion_laws.proofs.Motion.{Timed, motion_start, motion_step, heads_grow}
-use Rattle.motion_laws.proofs.Times.{timed_step, timed_story}
+use Rattle.motion_laws.proofs.Timed_story.{timed_step, timed_story}
 use Rattle.invariant_laws.proofs.Invariant.{Invariant}
 use Rattle.invariant_laws.proofs.Journeys_stay.{journeys_start, journeys_stay}
 use Rattle.step_laws.proofs.Authorized_step.{authorized_start, authorized_step, ends_grow}
 use Rattle.front_laws.proofs.Reports_step.{reports_start, reports_step}
-use Rattle.front_laws.proofs.Front_step.{fronts_start, fronts_step}
+use Rattle.front_laws.proofs.Fronts_step.{fronts_start, fronts_step}
 
 pub invariant_start : (line : Line) (t : ℕ) → Invariant line t []
 invariant_start line t = record {

@@ -1,8 +1,8 @@
-pub mod Auth_issues
-pub mod Auth_takes
-pub mod Auth_requests
-pub mod Auth_taken
+pub mod Issues
+pub mod Effect_issues
+pub mod Requests_stay
+pub mod Effect_took_is
 pub mod Limit_stays
-pub mod Auth_parts
+pub mod Controlled_next
 pub mod Authorized_step
 pub mod Invariant_story

@@ -15,19 +15,19 @@ use Rattle.definitions.specs.Control.{controls}
 use Rattle.definitions.specs.Farther.{end_or_0}
 use Rattle.definitions.specs.Fold.{account}
 use Rattle.definitions.specs.Steps.{effects}
-use Rattle.event_laws.proofs.Still.{number_on, limit_on, number_next, number_off, limit_next, limit_kept}
+use Rattle.event_laws.proofs.Still_world.{number_on, limit_on, number_next, number_off, limit_next, limit_kept}
 use Rattle.definitions.specs.Zones.{zone_id}
 use Rattle.event_laws.proofs.Admitted.{Admitted}
 use Rattle.event_laws.proofs.Notions.{entered_same}
 use Rattle.motion_laws.proofs.Motion.{Motion, head_on, head_next, place_grows, heads_grow, motion_step}
-use Rattle.event_laws.proofs.Does.{effect_event}
-use Rattle.motion_laws.proofs.Moves.{head_step}
+use Rattle.event_laws.proofs.By_does.{effect_event}
+use Rattle.motion_laws.proofs.Head_step.{head_step}
 use Rattle.invariant_laws.proofs.Invariant.{end_read, AuthorityIs, FirstIs, LimitIs, Authorized}
 use Rattle.invariant_laws.proofs.One_route.{first_end}
 use Rattle.invariant_laws.proofs.First_steps.{end_same}
-use Rattle.authority_laws.proofs.Auth_quiet.{Going, AuthsStay, held_stays}
+use Rattle.authority_laws.proofs.Auths_stay.{Going, AuthsStay, held_stays}
 use Rattle.front_laws.proofs.Route_goes_on.{read_stays}
-use Rattle.step_laws.proofs.Auth_taken.{TakenIs}
+use Rattle.step_laws.proofs.Effect_took_is.{TakenIs}
 
 -- a step moves a train to its limit at most
 moved_stops : (line : Line) (t : ℕ) (s : Story) (e : Event) → stops_rightly line s e ≡ true → head t s ≤ limit_place line t s → head t s + moved t e ≤ limit_place line t s

@@ -7,10 +7,9 @@ ghost use Rattle.definitions.specs.Authority.{held, envelope};
 ghost use Rattle.definitions.specs.Steps.{story_of};
 ghost use Rattle.run_engine.specs.Shown.{reading_shown, Small};
 
-use definitions::outcome::Outcome;
+use definitions::document::Command;
 use line_system::System;
-use msg_codec::Outs;
-use run_engine::stage::{Reading, Stage};
+use run_engine::stage::{Reading, Room, Stage};
 use std::alloc::Global;
 use std::process::Abort;
 use track_points::{PointSet, SegId, TrainId, ZoneId};
@@ -52,14 +51,7 @@ const SECOND_TRAIN: &[&str] = &[
 ];
 
 /// Reads text lines, which are short.
-fn read(
-    rt: &impl Abort,
-    alloc: Global,
-    reading: &mut Reading,
-    outs: &mut Outs,
-    lines: &mut Vec<Outcome>,
-    texts: &[&str],
-)
+fn read(rt: &impl Abort, alloc: Global, reading: &mut Reading, room: &mut Room, texts: &[&str])
     requires { Small (reading_shown reading.old) }
     ensures { Small (reading_shown reading.new) }
 {
@@ -68,24 +60,23 @@ fn read(
         if bytes.len() >= 4096 {
             panic!(rt; "the text line is too long");
         }
-        lines.clear();
-        let Ok(()) = reading.text(alloc, bytes.len() as u64 + 1, bytes, outs, lines) else {
+        room.lines.clear();
+        let Ok(_) = reading.text(alloc, bytes.len() as u64 + 1, bytes, room) else {
             panic!(rt; "want of memory");
         };
-        read(rt, alloc, reading, outs, lines, rest);
+        read(rt, alloc, reading, room, rest);
     }
 }
 
 /// The system after a document's text lines.
 fn system_behind(rt: &impl Abort, alloc: Global, texts: &[&str]) -> System {
-    let Ok(mut outs) = Outs::new(alloc) else {
+    let Ok(mut room) = Room::new(alloc) else {
         panic!(rt; "want of memory");
     };
-    let Ok(mut reading) = Reading::start(alloc) else {
+    let Ok(mut reading) = Reading::start(alloc, Command::Run) else {
         panic!(rt; "want of memory");
     };
-    let mut lines = Vec::new(alloc);
-    read(rt, alloc, &mut reading, &mut outs, &mut lines, texts);
+    read(rt, alloc, &mut reading, &mut room, texts);
     let Reading { stage, .. } = reading;
     let Stage::Script(system, _) = stage else {
         panic!(rt; "the document is over");

@@ -1,6 +1,7 @@
 -- Reading from the front: a value and what follows, or how many bytes are left where nothing continues.
 use Rattle.std.specs.Char.{is_ascii_digit}
-use Rattle.std.specs.Prelude.{ℕ, zero, suc, ◌+◌, ◌-◌, ◌*◌, List, [], ◌∷◌, ◌++◌, length, Option, Some, None, Result, Ok, Err, if◌then◌else◌, ◌&&◌, nat_le, nat_eq, max}
+use Rattle.std.specs.Prelude.{ℕ, zero, suc, ◌+◌, ◌-◌, ◌*◌, List, [], ◌∷◌, ◌++◌, Option, Some, None, Result, Ok, Err, if◌then◌else◌, ◌&&◌, nat_le, nat_lt, nat_eq, max, min, length, take}
+use Rattle.text_forms.specs.Language.{most_bytes}
 use Rattle.text_forms.specs.Forms.{number_limit, words_of, Form, words}
 use Rattle.text_forms.specs.declared.part.Part.{Part}
 use Rattle.text_forms.specs.declared.part.Part.TheVariants.{Number, Colon, Signed, Sign, Word, FirstByte, Byte}
@@ -132,3 +133,16 @@ line_at fs bytes = do
   x ← word_at 0 0 (words fs) bytes
   vs ← fields_in fs x.0 x.1
   Ok (x.0, vs)
+
+-- the bytes of a text that tell what it says: those that a text may have, and one more
+abbrev pub telling : List ℕ → List ℕ
+telling text = take (most_bytes + 1) text
+
+-- the form and the values of a text of so many bytes, by what reading gives; or the column at which it is refused
+abbrev pub form_from : ℕ → Result (ℕ × List ℕ) ℕ → Result (ℕ × List ℕ) ℕ
+form_from size (Ok x) = if nat_lt most_bytes size then Err (most_bytes + 1) else Ok x
+form_from size (Err left) = Err (min (size - left + 1) (most_bytes + 1))
+
+-- the place and the values of the form of the table that a text spells, or the column at which the table refuses it
+unfoldable pub form_at : List Form → List ℕ → Result (ℕ × List ℕ) ℕ
+form_at fs text = form_from (length (telling text)) (line_at fs (telling text))

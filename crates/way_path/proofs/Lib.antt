@@ -1,3 +1,3 @@
-pub mod OnSteps
-pub mod BySteps
-pub mod Ways
+pub mod Rest_is
+pub mod As_points
+pub mod Dropped_is_way

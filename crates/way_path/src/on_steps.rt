@@ -11,7 +11,7 @@ use line_map::Line;
 use track_points::{Dir, DirSeg, Path, SegId};
 
 /// The length of a segment in mm; 0 where it is not declared.
-#[tactic(auto, using(crate::proofs::OnSteps::undeclared))]
+#[tactic(auto, using(crate::proofs::Rest_is::undeclared))]
 pub fn length_of(line: &Line, s: SegId) -> u32
     ensures len { result ≡ seg_len line.now s.0 }
     ensures most { result ≤ 10000000 }
@@ -24,7 +24,7 @@ pub fn length_of(line: &Line, s: SegId) -> u32
 }
 
 /// The zone of a segment; 0 where it is not declared.
-#[tactic(auto, using(crate::proofs::OnSteps::in_no_zone))]
+#[tactic(auto, using(crate::proofs::Rest_is::in_no_zone))]
 pub fn zone_of(line: &Line, s: SegId) -> u8
     ensures { result ≡ zone_of line.now s.0 }
 {
@@ -111,7 +111,7 @@ pub fn total(line: &Line, steps: &[DirSeg]) -> u32
 }
 
 /// The place of an offset on the last step.
-#[tactic(auto, using(crate::proofs::OnSteps::last_alone), unfolding(track_points::specs::Points::place_of_last))]
+#[tactic(auto, using(crate::proofs::Rest_is::last_alone), unfolding(track_points::specs::Points::place_of_last))]
 fn place_of_last(line: &Line, steps: &[DirSeg], off: u32) -> u32
     requires few { length steps.now ≤ 24 }
     requires off { off ≤ 10000000 }

@@ -1,5 +1,5 @@
-pub mod Listed
-pub mod Moving
-pub mod OnTrack
-pub mod Paths
-pub mod Stays
+pub mod Changed_is
+pub mod Stands_on
+pub mod Moves_on
+pub mod Unfit
+pub mod Event_stays

@@ -1,7 +1,7 @@
 //! The world: its clock, its trains and how they move, what each of its steps gives, and which authorities it acts on.
 #![tactic(auto)]
 
-mod places;
+pub mod places;
 mod trains;
 pub mod world;
 

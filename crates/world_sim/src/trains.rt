@@ -33,7 +33,7 @@ pub fn is_same_portal(step: DirSeg, first: Option<DirSeg>) -> bool
 
 /// Where an authority ends, in mm from the start of its path; none where its path is no path on the line, or where its
 /// mark and its steps are more than a mark can count.
-#[tactic(auto, using(crate::proofs::Paths::unfit))]
+#[tactic(auto, using(crate::proofs::Unfit::unfit))]
 pub fn end_of(line: &Line, mark: u32, path: &Path) -> Option<u32>
     ensures { EndIs line.now mark path.now result }
 {
@@ -170,7 +170,7 @@ fn moved(line: &Line, head: Head, mm: u32) -> Head
 }
 
 /// The head of a train moves on so many mm.
-#[tactic(auto, using(crate::proofs::OnTrack::reach_less))]
+#[tactic(auto, using(crate::proofs::Moves_on::reach_less))]
 pub fn move_on(line: &Line, train: &mut WorldTrain, mm: u32)
     requires valid { is_line line.now ≡ true }
     requires head { HeadIs line.now train.old.room train.old.head }

@@ -189,6 +189,13 @@ impl World {
         self.places.place(train)
     }
 
+    /// Whether a train of this id is declared.
+    pub fn is_declared(&self, train: TrainId) -> bool
+        ensures { result ≡ is_some (find_train train.0 self.now.trains) }
+    {
+        self.place(train).is_some()
+    }
+
     /// The first train of this id, where it stands.
     fn get(&self, train: TrainId) -> Option<&WorldTrain>
         ensures found { option_copied result ≡ find_train train.0 self.now.trains }
@@ -448,7 +455,7 @@ impl World {
     }
 
     /// The world takes a message of the link from an actor.
-    #[tactic(auto, using(crate::proofs::Stays::take_stays))]
+    #[tactic(auto, using(crate::proofs::Event_stays::take_stays))]
     pub fn take(&mut self, line: &Line, from: u8, message: &Msg, outs: &mut Outs)
         requires empty { outs.old ≡ nothing }
         requires on { IsWorldOn line.now self.old }
@@ -470,7 +477,7 @@ impl World {
     }
 
     /// What an event of the world's own gives, and makes of the world.
-    #[tactic(auto, using(crate::proofs::Listed::ascends_from))]
+    #[tactic(auto, using(crate::proofs::Changed_is::ascends_from))]
     fn own(&mut self, line: &Line, event: &Event, outs: &mut Outs)
         requires empty { outs.old ≡ nothing }
         requires fits { StepFits self.old event.now }
@@ -505,13 +512,12 @@ impl World {
                     train: *train,
                 },
             ),
-            Event::Take(_, _, _) => {}
-            Event::Deliver(_) => {}
+            _ => {}
         }
     }
 
     /// An event of the world's own.
-    #[tactic(auto, using(crate::proofs::Stays::event_stays, crate::proofs::Stays::stops))]
+    #[tactic(auto, using(crate::proofs::Event_stays::event_stays, crate::proofs::Event_stays::stops))]
     pub fn step(&mut self, line: &Line, event: &Event, outs: &mut Outs)
         requires empty { outs.old ≡ nothing }
         requires fits { StepFits self.old event.now }

@@ -1,6 +1,6 @@
-pub mod Nearest
-pub mod Away
-pub mod First
-pub mod OnSteps
-pub mod Reaches
-pub mod Walked
+pub mod First_held_is
+pub mod Train_away
+pub mod Stop_is
+pub mod Longer_is
+pub mod Reach_is
+pub mod Near_more

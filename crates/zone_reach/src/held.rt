@@ -102,7 +102,7 @@ fn near_train(line: &Line, other: &Controlled, step: DirSeg, from: u64) -> u64
 
 /// The nearer of this offset and the first one whose cell lies in a way. A way that does not visit the segment is passed
 /// over.
-#[tactic(auto, using(crate::proofs::Away::train_away))]
+#[tactic(auto, using(crate::proofs::Train_away::train_away))]
 fn or_near_train(line: &Line, other: &Controlled, step: DirSeg, from: u64, nearest: u64) -> u64
     requires { nearest ≤ seg_len line.now step.seg.0 }
     ensures { result ≡ min (near_train (seg_len line.now) other.now step from) nearest }
@@ -203,7 +203,7 @@ fn visited_on(line: &Line, zone: u8, other: &Controlled, s: SegId) -> bool
 }
 
 /// Whether a way has a cell of a segment of the zone's own.
-#[tactic(auto, using(crate::proofs::Away::on_away))]
+#[tactic(auto, using(crate::proofs::Train_away::on_away))]
 fn train_on(line: &Line, zone: u8, other: &Controlled, s: SegId) -> bool
     ensures { result ≡ train_on line.now zone s.0 other.now }
 {

@@ -120,7 +120,7 @@ pub fn barred(obstacle: Obstacle) -> Reach
 
 /// How far an ask reaches beyond the end of a way. An ask of a train that is not ready, or that does not continue the
 /// way, is barred, and so is one of a train that is silent. A cell of the zone's own that lies in the way of another train is held.
-#[tactic(auto, using(way_laws::proofs::Cut::total_front))]
+#[tactic(auto, using(way_laws::proofs::Cut_front::total_front))]
 pub fn reach_from(
     line: &Line,
     zone: u8,

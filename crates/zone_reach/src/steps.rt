@@ -99,7 +99,7 @@ pub fn continues(line: &Line, steps: &[DirSeg], asked: &[DirSeg], way: &[DirSeg]
 }
 
 /// The place of an offset on the last step.
-#[tactic(auto, using(way_path::proofs::OnSteps::last_alone), unfolding(track_points::specs::Points::place_of_last))]
+#[tactic(auto, using(way_path::proofs::Rest_is::last_alone), unfolding(track_points::specs::Points::place_of_last))]
 pub fn place_of_last(line: &Line, steps: &[DirSeg], off: u32) -> u64
     requires { length steps.now ≤ 48 }
     ensures place { result ≡ place_of_last (seg_len line.now) steps.now off }

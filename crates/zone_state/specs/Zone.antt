@@ -1,6 +1,6 @@
 -- What a zone keeps, and what holds of it.
-use Rattle.std.specs.Prelude.{◌≡◌, ℕ, List, [], ◌∷◌, ◌+◌, ◌≤◌, length, map, filter, Bool, true, ◌&&◌, not, nat_eq, nat_lt, max, Option, Some, None, ⊤}
-use Rattle.std.specs.List.{list_all}
+use Rattle.std.specs.Prelude.{◌≡◌, ℕ, List, [], ◌∷◌, ◌+◌, ◌<◌, ◌≤◌, length, map, filter, slice_index_or, Bool, true, ◌&&◌, not, nat_eq, nat_lt, max, Option, Some, None, Result, Ok, Err, ⊤}
+use Rattle.std.specs.List.{list_all, position}
 use Rattle.std.specs.List.Sorted.{IsNonDecreasingBy}
 use Rattle.track_points.specs.declared.ids.DirSeg.{DirSeg}
 use Rattle.track_points.specs.declared.ids.TrainId.{TrainId}
@@ -113,6 +113,17 @@ IsEnvelope layout _ _ = ⊥
 
 abbrev pub is_train : ℕ → Controlled → Bool
 is_train t x = nat_eq x.id.0 t
+
+-- where a train that is not among some goes in: after those of no greater id
+pub record GoesIn (t : ℕ) (trains : List Controlled) (i : ℕ) : Type 0 where
+  pub within : i ≤ length trains
+  pub below : (k : ℕ) (d : Controlled) → k < i → (slice_index_or trains k d).id.0 ≤ t
+  pub rest : (k : ℕ) (d : Controlled) → i ≤ k → k < length trains → t < (slice_index_or trains k d).id.0
+
+-- where a train stands among some, or else where it goes in
+abbrev pub IsPlace : ℕ → List Controlled → Result ℕ ℕ → Type 0
+IsPlace t trains (Ok i) = (position (is_train t) trains ≡ Some i) × (i < length trains)
+IsPlace t trains (Err i) = (position (is_train t) trains ≡ None) × GoesIn t trains i
 
 -- a train that falls silent as Now rises, on a line where one is silent more than these ms after its last report
 abbrev pub falls_silent : ℕ → ℕ → ℕ → Controlled → Bool

@@ -12,7 +12,7 @@ use plain_state::Controlled;
 use track_points::ZoneId;
 
 /// Whether a train is silent at a Now, which is more than some ms after its last report.
-#[tactic(auto, using(crate::proofs::Timed::silent_is))]
+#[tactic(auto, using(crate::proofs::Narrowed_stands::silent_is))]
 pub fn is_silent(ms: u64, report: u64, clock: u64) -> bool
     ensures { result ≡ nat_lt (report + ms) clock }
 {

@@ -1,5 +1,5 @@
 //! The trains that a zone controls, and what each kind of message does to them.
-ghost use Rattle.std.specs.Prelude.{ℕ, ◌≡◌, ◌≤◌, ◌<◌, ◌+◌, ◌&&◌, List, length, slice_index_or, nat_eq, true, false, Some, None, IfSome, is_some};
+ghost use Rattle.std.specs.Prelude.{ℕ, ◌≡◌, ◌≤◌, ◌<◌, ◌+◌, ◌&&◌, List, length, slice_index_or, nat_eq, true, false, None, IfSome, Some, is_ok, is_some};
 ghost use Rattle.std.specs.List.{list_all, position};
 ghost use Rattle.track_points.specs.Points.{Point, has_between};
 ghost use Rattle.track_points.specs.Sets.{set_has};
@@ -10,7 +10,7 @@ ghost use Rattle.way_path.specs.Ways.{IsWay, OnLine, EndsWithPath};
 ghost use Rattle.plain_state.specs.Zone.{find_controlled, change_controlled, answered_by, lengthened, last_found, path_found, way_found, again_found, placed_train, reach_plain, holder_plain, full, fresh_train, trains_asked, trains_entered, train_at_entry, entry_way};
 ghost use Rattle.zone_reach.specs.Reach.{reach_value, ReachFits};
 ghost use Rattle.plain_state.specs.declared.Controlled.{Controlled};
-ghost use Rattle.zone_state.specs.Zone.{TrainFits, AllFit, IsHold, ZoneFits, Ascend, is_train, ReachFitsFound, path_granted};
+ghost use Rattle.zone_state.specs.Zone.{TrainFits, AllFit, IsHold, ZoneFits, Ascend, GoesIn, IsPlace, is_train, ReachFitsFound, path_granted};
 
 use crate::clock::is_silent;
 use crate::zone::{Zone, fresh_train};
@@ -27,27 +27,26 @@ use zone_reach::held::holder;
 use zone_reach::reach::{Reach, barred, reach_from};
 use zone_reach::steps::lengthen_way;
 
-/// How many trains have an id below a number. They stand before all others.
-fn count_below(trains: &[Controlled], id: u32) -> usize
+/// How many trains have an id below that of a train. They stand before all others.
+fn count_below(trains: &[Controlled], train: TrainId) -> usize
     requires { Ascend trains.now }
     ensures within { result ≤ length trains.now }
-    ensures below { (k : ℕ) (d : Controlled) → k < result → (slice_index_or trains.now k d).id.0 < id }
-    ensures rest { (k : ℕ) (d : Controlled) → result ≤ k → k < length trains.now → id ≤ (slice_index_or trains.now k d).id.0 }
+    ensures below { (k : ℕ) (d : Controlled) → k < result → (slice_index_or trains.now k d).id.0 < train.0 }
+    ensures rest { (k : ℕ) (d : Controlled) → result ≤ k → k < length trains.now → train.0 ≤ (slice_index_or trains.now k d).id.0 }
 {
-    trains.partition_point(|x| u32::from(x.id.0) < id)
+    trains.partition_point(|x| x.id.0 < train.0)
 }
 
-/// Where a train stands among some.
-fn train_index(trains: &[Controlled], train: TrainId) -> Option<usize>
+/// Where a train stands among some, or else where it goes in.
+fn place_among(trains: &[Controlled], train: TrainId) -> Result<usize, usize>
     requires { Ascend trains.now }
-    ensures first { result ≡ position (is_train train.0) trains.now }
-    ensures within { IfSome result (λ i. i < length trains.now) }
+    ensures { IsPlace train.0 trains.now result }
 {
-    let i = count_below(trains, u32::from(train.0));
+    let i = count_below(trains, train);
     if i < trains.len() && trains[i].id.0 == train.0 {
-        Some(i)
+        Ok(i)
     } else {
-        None
+        Err(i)
     }
 }
 
@@ -216,28 +215,23 @@ fn is_full(trains: &[Controlled]) -> bool
 }
 
 impl Zone {
+    /// Where a train stands among those that the zone controls, or else where it goes in.
+    fn place_of(&self, train: TrainId) -> Result<usize, usize>
+        ensures place { IsPlace train.0 self.now.plain.trains result }
+        ensures known { is_ok result ≡ is_some (find_controlled train.0 self.now.plain.trains) }
+    {
+        place_among(self.trains.as_slice(), train)
+    }
+
     /// Where a train stands among those that the zone controls.
     pub(crate) fn index_of(&self, train: TrainId) -> Option<usize>
         ensures first { result ≡ position (is_train train.0) self.now.plain.trains }
         ensures within { IfSome result (λ i. i < length self.now.plain.trains) }
     {
-        train_index(self.trains.as_slice(), train)
-    }
-
-    /// Where a further train goes in: after those of no greater id.
-    fn place_for(&self, train: TrainId) -> usize
-        ensures within { result ≤ length self.now.plain.trains }
-        ensures below { (k : ℕ) (d : Controlled) → k < result → (slice_index_or self.now.plain.trains k d).id.0 ≤ train.0 }
-        ensures rest { (k : ℕ) (d : Controlled) → result ≤ k → k < length self.now.plain.trains → train.0 < (slice_index_or self.now.plain.trains k d).id.0 }
-    {
-        count_below(self.trains.as_slice(), u32::from(train.0) + 1)
-    }
-
-    /// Whether the zone controls the train.
-    fn knows(&self, train: TrainId) -> bool
-        ensures { result ≡ is_some (find_controlled train.0 self.now.plain.trains) }
-    {
-        self.index_of(train).is_some()
+        match self.place_of(train) {
+            Ok(i) => Some(i),
+            Err(_) => None,
+        }
     }
 
     /// Counts an answer of a train, to a number that was issued and is above the greatest counted.
@@ -321,14 +315,15 @@ impl Zone {
         }
     }
 
-    /// Puts a train among those that the zone controls, which has room for it, and beside it what is held for it.
-    fn put(&mut self, x: Controlled, hold: PointSet)
+    /// Puts a train where it goes in among those that the zone controls, which has room for it, and beside it what is held
+    /// for it.
+    fn put(&mut self, index: usize, x: Controlled, hold: PointSet)
+        requires place { GoesIn x.id.0 self.old.plain.trains index }
         requires few { length self.old.plain.trains < 256 }
         requires fresh { fresh_train x ≡ true }
         ensures next { self.new.plain ≡ record self.old.plain { trains = placed_train x self.old.plain.trains } }
         ensures fits { (line : List Item) → TrainFits line self.old.plain.clock x → IsHold line self.old.plain.id x hold → ZoneFits line self.old → ZoneFits line self.new }
     {
-        let index = self.place_for(x.id);
         let _ = self.trains.insert(index, x);
         let _ = self.holds.insert(index, hold);
     }
@@ -344,9 +339,9 @@ impl Zone {
         ensures fits { ZoneFits line.now self.new }
     {
         let train = request.train;
-        if self.knows(train) {
+        let Err(place) = self.place_of(train) else {
             return refused(self.id, train, Refusal::Known, outs);
-        }
+        };
         if is_full(self.trains.as_slice()) {
             return refused(self.id, train, Refusal::TooMany, outs);
         }
@@ -359,7 +354,7 @@ impl Zone {
         }
         let x = train_at_entry(line, self.clock, request, room);
         let hold = hold_of(line, self.id, &x.way);
-        self.put(x, hold);
+        self.put(place, x, hold);
         entered(self.id, train, request.step, room, outs);
     }
 }

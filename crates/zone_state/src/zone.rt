@@ -45,17 +45,22 @@ impl Model for Zone {
     ghost invariant = { λ z. (256 ≤ vec_capacity z.trains) × ((256 ≤ vec_capacity z.holds) × AreKept z.trains.items z.holds.items z.fresh) };
 }
 
-/// The time in a message.
+/// The time in a message, 0 in one that has none.
 fn message_time(message: &Msg) -> u64
     ensures { result ≡ message_time message.now }
 {
     match message {
-        Msg::Report { time, .. } => *time,
-        Msg::Time { time, .. } => *time,
-        Msg::EntryAsk { time, .. } => *time,
-        Msg::Ask { time, .. } => *time,
-        Msg::Answer { time, .. } => *time,
-        Msg::Auth { .. } => 0,
+        Msg::Report { time, .. }
+        | Msg::Reading { time, .. }
+        | Msg::Time { time, .. }
+        | Msg::EntryAsk { time, .. }
+        | Msg::Ask { time, .. }
+        | Msg::Answer { time, .. }
+        | Msg::Gone { time, .. }
+        | Msg::Echo { time, .. }
+        | Msg::Order { time, .. } => *time,
+        Msg::Hand(hand) => hand.time,
+        _ => 0,
     }
 }
 
@@ -192,7 +197,7 @@ impl Zone {
             }
             Msg::Time { train, .. } => self.send_again(*train, outs),
             Msg::Answer { train, number, .. } => self.answer(*train, *number),
-            Msg::Auth { .. } => {}
+            _ => {}
         }
     }
 

@@ -1,8 +1,8 @@
 //! Worked documents and what the program writes for each, as tables of text.
 //!
-//! A row is a line `= NAME`, the text lines of the document, a line `- STATUS` and the lines that are written. A line
-//! `+ PART` stands for the text lines of that part. One literal for a table costs the prover next to nothing; a row in
-//! the form of a struct costs half a second.
+//! A row is a line `= NAME`, the text lines of the document, a line `- STATUS` of a run or `* STATUS` of a check, and the
+//! lines that are written. A line `+ PART` stands for the text lines of that part. One literal for a table costs the prover
+//! next to nothing; a row in the form of a struct costs half a second.
 
 /// The parts, each a line `: NAME` and its text lines:
 ///
@@ -422,14 +422,14 @@ line 1 rule 4
 + four segments
 script
 train 65536 60000 2000 20000 eq
-- 10
-unbuilt 12
+- 4
+script 12 column 7
 = an error as long as the train
 + four segments
 script
 train 7 2000 2000 20000 eq
-- 10
-unbuilt 12
+- 4
+script 12 column 14
 = a space too many
 zone  1
 - 3
@@ -438,8 +438,8 @@ line 1 column 6
 + four segments
 script
 zone 1
-- 10
-unbuilt 12
+- 4
+script 12 column 1
 = an event among the items
 + four segments
 enter 7
@@ -483,27 +483,27 @@ script 1 column 1
 + four segments
 script
 plan
-- 10
-unbuilt 12
+- 4
+script 12 column 1
 = the word again
 + four segments
 script
 script
-- 10
-unbuilt 12
+- 4
+script 12 column 3
 = a train not declared
 + four segments
 script
 enter 7
-- 10
-unbuilt 12
+- 4
+script 12 column 7
 = an entry at no portal
 + four segments
 script
 train 7 60000 2000 20000 eq
 entry 7 2+
-- 10
-unbuilt 13";
+- 4
+script 13 column 9";
 
 /// What is taken, asked and refused.
 const MESSAGES: &str = "
@@ -591,8 +591,8 @@ premise 14 P6
 + four segments
 + asks for entry
 take 1 1 1
-- 10
-unbuilt 14
+- 4
+script 14 column 8
 = enter before the authority
 + four segments
 + asks for entry
@@ -884,19 +884,19 @@ done 16
 + four segments
 + trains
 train 8 50000 1000 10000 eq
-- 10
-unbuilt 16
+- 4
+script 16 column 7
 = a train declared again once it is on
 + four segments
 + trains
 + both on
 train 7 60000 2000 20000 eq
-- 10
+- 4
 entry 1 7 1
 entry 1 8 1
 answer 7 1 taken
 answer 8 1 taken
-unbuilt 26
+script 26 column 7
 = the entry authority of another train
 + four segments
 + trains
@@ -1978,135 +1978,273 @@ const FORMS: &str = "
 + four segments
 + asks for entry
 step 0
-- 10
-unbuilt 14
+- 4
+script 14 column 6
 = a step of more than a minute
 + four segments
 + asks for entry
 step 60001
-- 10
-unbuilt 14
+- 4
+script 14 column 6
 = a train without mm in a step
 + four segments
 + asks for entry
 step 1000 7
-- 10
-unbuilt 14
+- 4
+script 14 column 12
 = mm out of their range
 + four segments
 + asks for entry
 step 60000 7 3600001
-- 10
-unbuilt 14
+- 4
+script 14 column 14
 = a train twice in a step
 + four segments
 + asks for entry
 + comes on
 step 1000 7 0 7 0
-- 10
+- 4
 entry 1 7 1
 answer 7 1 taken
-unbuilt 18
+script 18 column 15
 = trains that descend in a step
 + four segments
 + trains
 + both on
 step 1000 8 0 7 0
-- 10
+- 4
 entry 1 7 1
 entry 1 8 1
 answer 7 1 taken
 answer 8 1 taken
-unbuilt 26
+script 26 column 15
 = a train that is not declared in a step
 + four segments
 + asks for entry
 + comes on
 step 1000 7 0 8 0
-- 10
+- 4
 entry 1 7 1
 answer 7 1 taken
-unbuilt 18
-= a form before a premise
+script 18 column 15
+= a field before a premise
 + four segments
 + asks for entry
 step 1000 7 0 8 0
-- 10
-unbuilt 14
+- 4
+script 14 column 15
 = a report with another flag
 + four segments
 + asks for entry
 + comes on
 report 7 1 1+ 60000 2
-- 10
+- 4
 entry 1 7 1
 answer 7 1 taken
-unbuilt 18
+script 18 column 21
 = a report with the offset -0
 + four segments
 + asks for entry
 + comes on
 report 7 1 1+ -0 1
-- 10
+- 4
 entry 1 7 1
 answer 7 1 taken
-unbuilt 18
+script 18 column 16
 = a report with an offset out of its range
 + four segments
 + asks for entry
 + comes on
 report 7 1 1+ -1000001 1
-- 10
+- 4
 entry 1 7 1
 answer 7 1 taken
-unbuilt 18
+script 18 column 15
 = a report to a zone that is not declared
 + four segments
 + asks for entry
 + comes on
 report 7 2 1+ 60000 1
-- 10
+- 4
 entry 1 7 1
 answer 7 1 taken
-unbuilt 18
+script 18 column 10
 = a time for a train that is not declared
 + four segments
 + asks for entry
 + comes on
 time 1 8
-- 10
+- 4
 entry 1 7 1
 answer 7 1 taken
-unbuilt 18
+script 18 column 8
 = a time to a zone that is not declared
 + four segments
 + asks for entry
 + comes on
 time 2 7
-- 10
+- 4
 entry 1 7 1
 answer 7 1 taken
-unbuilt 18
+script 18 column 6
 = a delivery to a zone that is not declared
 + four segments
 + asks for entry
 + comes on
 deliver 2
-- 10
+- 4
 entry 1 7 1
 answer 7 1 taken
-unbuilt 18
+script 18 column 9
 = silent in the script
 + four segments
 script
 silent 10
-- 10
-unbuilt 12";
+- 4
+script 12 column 2";
 
 /// All tables.
+
+/// Documents that are checked, and what stands in a check as in a run.
+const CHECKS: &str = "= check drops comments and blank lines
+# a line of one segment
+
+zone 1
+segment 1 1 1000
+buffer 1-
+
+buffer 1+
+script
+
+# two events
+train 7 60 2 20 eq
+deliver 0
+* 0
+zone 1
+segment 1 1 1000
+buffer 1-
+buffer 1+
+script
+train 7 60 2 20 eq
+deliver 0
+done 2
+= a check tries no premise
++ four segments
+script
+train 7 60000 2000 20000 eq
+enter 7
+* 0
++ four segments
+script
+train 7 60000 2000 20000 eq
+enter 7
+done 2
+= a check without the word
++ four segments
+* 0
++ four segments
+done 0
+= a check of a line that does not finish
+zone 1
+segment 1 1 1000
+* 3
+zone 1
+segment 1 1 1000
+line 3 rule 7
+= a check of a refused item
+zone 1
+zone 2
+* 10
+zone 1
+unbuilt 2
+= a check of a text that is no item
+zone 1
+zones
+* 3
+zone 1
+line 2 column 5
+= a plan is not built in a check
++ four segments
+plan
+* 10
++ four segments
+unbuilt 11
+= a plan has no place in a run
++ four segments
+plan
+- 4
+script 11 column 1
+= noise is not built
++ four segments
+script
+noise 1 0 00
+- 10
+unbuilt 12
+= noise is not built in a check
++ four segments
+script
+noise 1 0 00
+* 10
++ four segments
+script
+unbuilt 12
+= orders are not built, whatever they name
++ four segments
+script
+order close 99
+- 10
+unbuilt 12
+= orders are not built in a check
++ four segments
+script
+order close 2
+* 10
++ four segments
+script
+unbuilt 12
+= unequipped trains are not built, whatever their fields
++ four segments
+script
+train 0 60 2 20 un
+- 10
+unbuilt 12
+= unequipped trains are not built in a check
++ four segments
+script
+train 7 60 2 20 un
+* 10
++ four segments
+script
+unbuilt 12
+= a field is refused in a check
++ four segments
+script
+deliver 0
+enter 7
+* 4
++ four segments
+script
+deliver 0
+script 13 column 7
+= a text that is no event in a check
++ four segments
+script
+deliver
+* 4
++ four segments
+script
+script 12 column 8
+= two fields that would be refused
++ four segments
+script
+take 2 2 1
+- 4
+script 12 column 6";
+
 pub const TABLES: &[&str] = &[
     WORKED, RULES, TEXTS, MESSAGES, SEVERAL, MOTION, PREMISES, REPORTS, SILENCE, DELIVERIES, FORMS,
+    CHECKS,
 ];
 
 /// How many rows stand in them.
-pub const ROWS: u32 = 161;
+pub const ROWS: u32 = 178;

@@ -15,7 +15,7 @@ use std::process::Abort;
 use track_points::{DirSeg, TrainId, ZoneId};
 use world_sim::{Premise, World};
 
-#[tactic(auto, using(world_sim::proofs::Stays::start_on))]
+#[tactic(auto, using(world_sim::proofs::Event_stays::start_on))]
 fn start(alloc: Global, line: &Line) -> Result<World, AllocError>
     requires { is_line line.now ≡ true }
     ensures { IfOk result (λ world. IsWorldOn line.now world) }

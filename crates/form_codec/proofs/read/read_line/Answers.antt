@@ -3,6 +3,7 @@ use Rattle.text_forms.specs.Forms.{IsText}
 use Rattle.text_forms.specs.Rows.{forms}
 use Rattle.form_codec.proofs.Columns.{refusal_one, refused_not}
 use Rattle.form_codec.proofs.Rows.{ok_only, ok_said, err_left, err_never, err_refused, err_long, long_refused}
+use Rattle.form_codec.proofs.Telling.{form_taken, form_refused}
 use Rattle.form_codec.proofs.read.read_line.Goals as goal
 
 pub overflow_sub-column : goal.overflow_sub-column
@@ -49,3 +50,15 @@ pub returns-else-column-le4097-clause-column : goal.returns-else-column-le4097-c
 returns-else-column-le4097-clause-column c = λ k r.
     refusal_one (IsText (forms c.args.rows.now)) c.args.text.now 4097 k
     (err_long (forms c.args.rows.now) c.args.text.now c.line_of.new.values.items c.in-Err.left c.requires.table c.in-Err.ensures (omega arith)) r
+
+pub returns-then-text-le4096-clause-read : goal.returns-then-text-le4096-clause-read
+returns-then-text-le4096-clause-read c = form_taken (forms c.args.rows.now) c.args.text.now c.line_of.new.values.items c.in-Ok.form c.requires.table (returns-then-text-le4096-clause-said c).0 (omega arith)
+
+pub returns-else-text-le4096-clause-read : goal.returns-else-text-le4096-clause-read
+returns-else-text-le4096-clause-read c = form_refused (forms c.args.rows.now) c.args.text.now _ c.requires.table (returns-else-text-le4096-clause-refused c)
+
+pub returns-then-column-le4097-clause-read : goal.returns-then-column-le4097-clause-read
+returns-then-column-le4097-clause-read c = form_refused (forms c.args.rows.now) c.args.text.now _ c.requires.table (returns-then-column-le4097-clause-refused c)
+
+pub returns-else-column-le4097-clause-read : goal.returns-else-column-le4097-clause-read
+returns-else-column-le4097-clause-read c = form_refused (forms c.args.rows.now) c.args.text.now _ c.requires.table (returns-else-column-le4097-clause-refused c)

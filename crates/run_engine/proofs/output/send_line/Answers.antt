@@ -1,5 +1,5 @@
 use Rattle.std.proofs.Common.{[], append-nil}
-use Rattle.definitions.specs.Endings.{outcome_text}
+use Rattle.definitions.specs.OutcomeText.{outcome_text}
 use Rattle.run_engine.proofs.Sending.{then, other_text, buffered, buffer_full}
 use Rattle.run_engine.proofs.output.send_line.Goals as goal
 

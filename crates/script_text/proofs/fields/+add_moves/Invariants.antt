@@ -2,4 +2,4 @@ use Rattle.std.proofs.Common.{length}
 use Rattle.script_text.proofs.fields.+add_moves.Given as goal
 
 abbrev pub decreases-add_moves : goal.decreases-add_moves
-decreases-add_moves l = length l.values.now
+decreases-add_moves g l = length l.values.now

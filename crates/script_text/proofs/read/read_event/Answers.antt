@@ -1,52 +1,48 @@
-use Rattle.std.proofs.Common.{Ok, ap, sym, ◌∙◌, inl, inr}
-use Rattle.text_forms.specs.Tables.{has_room, is_table}
-use Rattle.script_text.proofs.Good_table.{event_table, event_room}
-use Rattle.script_text.proofs.Event_values.{event_fits}
-use Rattle.script_text.proofs.Reading.{said_at, event_said, some_only, some_field, field_only, field_one, text_not, field_not, refused_at, refusal_one}
-use Rattle.script_text.specs.EventText.{event_place, event_values}
+use Rattle.std.proofs.Common.{Ok, ap, inr}
+use Rattle.definitions.specs.EventText.{event_place, event_values}
+use Rattle.definitions.specs.EventFields.{event_of}
+use Rattle.script_text.specs.Trains.{numbers}
+use Rattle.script_text.proofs.Reading.{made_event, made_refused, at_event, at_field, at_refused, event_said, some_only, some_field, field_only, field_one, text_not, field_not, refused_same}
 use Rattle.script_text.proofs.read.read_event.Goals as goal
 
-pub read_line-requires-clause-room : goal.read_line-requires-clause-room
-read_line-requires-clause-room c = ap has_room c.event_rows.ensures ∙ event_room
+pub returns-in-Event-clause-read : goal.returns-in-Event-clause-read
+returns-in-Event-clause-read c = at_event c.args.line.now (numbers c.args.trains.now) c.in-Ok.form c.event_form.new.values.items c.args.text.now c.in-Event.event c.in-Ok.ensures.read (made_event c.in-Ok-put_event.field-0 c.args.text.now c.put_event.new.says c.in-Event.event (event_of c.args.line.now (numbers c.args.trains.now) c.in-Ok.form c.event_form.new.values.items) c.in-Ok-put_event.ensures c.in-Event.is)
 
-pub read_line-requires-clause-table : goal.read_line-requires-clause-table
-read_line-requires-clause-table c = ap is_table c.event_rows.ensures ∙ event_table
+pub returns-in-Event-clause-said : goal.returns-in-Event-clause-said
+returns-in-Event-clause-said c = event_said c.args.line.now (numbers c.args.trains.now) c.in-Ok.form c.event_form.new.values.items c.args.text.now c.in-Event.event (made_event c.in-Ok-put_event.field-0 c.args.text.now c.put_event.new.says c.in-Event.event (event_of c.args.line.now (numbers c.args.trains.now) c.in-Ok.form c.event_form.new.values.items) c.in-Ok-put_event.ensures c.in-Event.is) c.in-Ok.ensures.said.0
 
-pub event_of-requires : goal.event_of-requires
-event_of-requires c = event_fits c.in-Ok.form c.as_slice.result.now c.args.text.now (said_at c.event_rows.result.now c.in-Ok.form c.read_line.new.values.items c.as_slice.result.now c.args.text.now c.event_rows.ensures c.as_slice.ensures.value c.in-Ok.ensures.said.0)
+pub returns-in-Event-clause-only : goal.returns-in-Event-clause-only
+returns-in-Event-clause-only c = λ x q le h. ap Ok (some_only c.args.line.now (numbers c.args.trains.now) c.in-Ok.form c.event_form.new.values.items c.args.text.now c.in-Event.event x (made_event c.in-Ok-put_event.field-0 c.args.text.now c.put_event.new.says c.in-Event.event (event_of c.args.line.now (numbers c.args.trains.now) c.in-Ok.form c.event_form.new.values.items) c.in-Ok-put_event.ensures c.in-Event.is) c.in-Ok.ensures.said.0 q h)
 
-pub returns-in-Ok-event_of-clause-said : goal.returns-in-Ok-event_of-clause-said
-returns-in-Ok-event_of-clause-said c = event_said c.args.line.now c.args.trains.now c.in-Ok.form c.as_slice.result.now c.args.text.now c.in-Ok-event_of.event (sym c.event_of.ensures ∙ c.in-Ok-event_of.is) (said_at c.event_rows.result.now c.in-Ok.form c.read_line.new.values.items c.as_slice.result.now c.args.text.now c.event_rows.ensures c.as_slice.ensures.value c.in-Ok.ensures.said.0)
+pub returns-in-Event-clause-column : goal.returns-in-Event-clause-column
+returns-in-Event-clause-column c = λ k r. absurd (text_not c.in-Ok.form c.event_form.new.values.items c.args.text.now k c.in-Ok.ensures.said.0 c.in-Ok.ensures.said.1 r)
 
-pub returns-in-Ok-event_of-clause-only : goal.returns-in-Ok-event_of-clause-only
-returns-in-Ok-event_of-clause-only c = λ x q le h. ap Ok (some_only c.args.line.now c.args.trains.now c.in-Ok.form c.as_slice.result.now c.args.text.now c.in-Ok-event_of.event x (sym c.event_of.ensures ∙ c.in-Ok-event_of.is) (said_at c.event_rows.result.now c.in-Ok.form c.read_line.new.values.items c.as_slice.result.now c.args.text.now c.event_rows.ensures c.as_slice.ensures.value c.in-Ok.ensures.said.0) q h)
+pub returns-in-Event-clause-field : goal.returns-in-Event-clause-field
+returns-in-Event-clause-field c = λ k f. absurd (some_field c.args.line.now (numbers c.args.trains.now) c.in-Ok.form c.event_form.new.values.items c.args.text.now c.in-Event.event k (made_event c.in-Ok-put_event.field-0 c.args.text.now c.put_event.new.says c.in-Event.event (event_of c.args.line.now (numbers c.args.trains.now) c.in-Ok.form c.event_form.new.values.items) c.in-Ok-put_event.ensures c.in-Event.is) c.in-Ok.ensures.said.0 f)
 
-pub returns-in-Ok-event_of-clause-column : goal.returns-in-Ok-event_of-clause-column
-returns-in-Ok-event_of-clause-column c = λ k r. absurd (text_not c.in-Ok.form c.as_slice.result.now c.args.text.now k (said_at c.event_rows.result.now c.in-Ok.form c.read_line.new.values.items c.as_slice.result.now c.args.text.now c.event_rows.ensures c.as_slice.ensures.value c.in-Ok.ensures.said.0) c.in-Ok.ensures.said.1 r)
+pub returns-in-Err-put_event-clause-read : goal.returns-in-Err-put_event-clause-read
+returns-in-Err-put_event-clause-read c = at_field c.args.line.now (numbers c.args.trains.now) c.in-Ok.form c.event_form.new.values.items c.args.text.now c.in-Err-put_event.column c.in-Ok.ensures.said.1 c.in-Ok.ensures.read (made_refused (tt {0}) c.args.text.now c.put_event.new.says c.in-Err-put_event.column (event_of c.args.line.now (numbers c.args.trains.now) c.in-Ok.form c.event_form.new.values.items) c.in-Ok.ensures.said.1 c.in-Err-put_event.ensures)
 
-pub returns-in-Ok-event_of-clause-field : goal.returns-in-Ok-event_of-clause-field
-returns-in-Ok-event_of-clause-field c = λ k f. absurd (some_field c.args.line.now c.args.trains.now c.in-Ok.form c.as_slice.result.now c.args.text.now c.in-Ok-event_of.event k (sym c.event_of.ensures ∙ c.in-Ok-event_of.is) (said_at c.event_rows.result.now c.in-Ok.form c.read_line.new.values.items c.as_slice.result.now c.args.text.now c.event_rows.ensures c.as_slice.ensures.value c.in-Ok.ensures.said.0) f)
+pub returns-in-Err-put_event-clause-only : goal.returns-in-Err-put_event-clause-only
+returns-in-Err-put_event-clause-only c = λ x q le h. let r = (made_refused (tt {0}) c.args.text.now c.put_event.new.says c.in-Err-put_event.column (event_of c.args.line.now (numbers c.args.trains.now) c.in-Ok.form c.event_form.new.values.items) c.in-Ok.ensures.said.1 c.in-Err-put_event.ensures) in absurd (field_only c.args.line.now (numbers c.args.trains.now) c.in-Ok.form c.event_form.new.values.items c.args.text.now r.field x r.refused c.in-Ok.ensures.said.0 q h)
 
-pub returns-in-Err-event_of-clause-only : goal.returns-in-Err-event_of-clause-only
-returns-in-Err-event_of-clause-only c = λ x q le h. absurd (field_only c.args.line.now c.args.trains.now c.in-Ok.form c.as_slice.result.now c.args.text.now c.in-Err-event_of.field x (sym c.event_of.ensures ∙ c.in-Err-event_of.is) (said_at c.event_rows.result.now c.in-Ok.form c.read_line.new.values.items c.as_slice.result.now c.args.text.now c.event_rows.ensures c.as_slice.ensures.value c.in-Ok.ensures.said.0) q h)
+pub returns-in-Err-put_event-clause-refused : goal.returns-in-Err-put_event-clause-refused
+returns-in-Err-put_event-clause-refused c = let r = (made_refused (tt {0}) c.args.text.now c.put_event.new.says c.in-Err-put_event.column (event_of c.args.line.now (numbers c.args.trains.now) c.in-Ok.form c.event_form.new.values.items) c.in-Ok.ensures.said.1 c.in-Err-put_event.ensures) in inr (record { form = c.in-Ok.form; values = c.event_form.new.values.items; says = c.in-Ok.ensures.said.0; short = c.in-Ok.ensures.said.1; field = r.field; refused = r.refused; here = r.here })
 
-pub returns-in-Err-event_of-clause-refused : goal.returns-in-Err-event_of-clause-refused
-returns-in-Err-event_of-clause-refused c = inr (record { form = c.in-Ok.form; values = c.as_slice.result.now; says = (said_at c.event_rows.result.now c.in-Ok.form c.read_line.new.values.items c.as_slice.result.now c.args.text.now c.event_rows.ensures c.as_slice.ensures.value c.in-Ok.ensures.said.0); short = c.in-Ok.ensures.said.1; field = c.in-Err-event_of.field; refused = sym c.event_of.ensures ∙ c.in-Err-event_of.is; here = c.column_of.ensures.is })
+pub returns-in-Err-put_event-clause-column : goal.returns-in-Err-put_event-clause-column
+returns-in-Err-put_event-clause-column c = λ k r. absurd (text_not c.in-Ok.form c.event_form.new.values.items c.args.text.now k c.in-Ok.ensures.said.0 c.in-Ok.ensures.said.1 r)
 
-pub returns-in-Err-event_of-clause-column : goal.returns-in-Err-event_of-clause-column
-returns-in-Err-event_of-clause-column c = λ k r. absurd (text_not c.in-Ok.form c.as_slice.result.now c.args.text.now k (said_at c.event_rows.result.now c.in-Ok.form c.read_line.new.values.items c.as_slice.result.now c.args.text.now c.event_rows.ensures c.as_slice.ensures.value c.in-Ok.ensures.said.0) c.in-Ok.ensures.said.1 r)
+pub returns-in-Err-put_event-clause-field : goal.returns-in-Err-put_event-clause-field
+returns-in-Err-put_event-clause-field c = λ k f. let r = (made_refused (tt {0}) c.args.text.now c.put_event.new.says c.in-Err-put_event.column (event_of c.args.line.now (numbers c.args.trains.now) c.in-Ok.form c.event_form.new.values.items) c.in-Ok.ensures.said.1 c.in-Err-put_event.ensures) in field_one c.args.line.now (numbers c.args.trains.now) c.in-Ok.form c.event_form.new.values.items c.args.text.now r.field c.in-Err-put_event.column k r.refused c.in-Ok.ensures.said.0 r.here f
 
-pub returns-in-Err-event_of-clause-field : goal.returns-in-Err-event_of-clause-field
-returns-in-Err-event_of-clause-field c = λ k f. field_one c.args.line.now c.args.trains.now c.in-Ok.form c.as_slice.result.now c.args.text.now c.in-Err-event_of.field c.column_of.result k (sym c.event_of.ensures ∙ c.in-Err-event_of.is) (said_at c.event_rows.result.now c.in-Ok.form c.read_line.new.values.items c.as_slice.result.now c.args.text.now c.event_rows.ensures c.as_slice.ensures.value c.in-Ok.ensures.said.0) c.column_of.ensures.is f
+pub returns-in-Err-clause-read : goal.returns-in-Err-clause-read
+returns-in-Err-clause-read c = at_refused c.args.line.now (numbers c.args.trains.now) c.args.text.now c.in-Err.fault.column c.in-Err.ensures.read
 
 pub returns-in-Err-clause-only : goal.returns-in-Err-clause-only
-returns-in-Err-clause-only c = λ x q le h. absurd (text_not (event_place x) (event_values x) c.args.text.now c.in-Err.fault.column q le (refused_at c.event_rows.result.now c.args.text.now c.in-Err.fault.column c.event_rows.ensures c.in-Err.ensures.refused))
-
-pub returns-in-Err-clause-refused : goal.returns-in-Err-clause-refused
-returns-in-Err-clause-refused c = inl (refused_at c.event_rows.result.now c.args.text.now c.in-Err.fault.column c.event_rows.ensures c.in-Err.ensures.refused)
+returns-in-Err-clause-only c = λ x q le h. absurd (text_not (event_place x) (event_values x) c.args.text.now c.in-Err.fault.column q le c.in-Err.ensures.refused)
 
 pub returns-in-Err-clause-column : goal.returns-in-Err-clause-column
-returns-in-Err-clause-column c = λ k r. refusal_one c.args.text.now c.in-Err.fault.column k (refused_at c.event_rows.result.now c.args.text.now c.in-Err.fault.column c.event_rows.ensures c.in-Err.ensures.refused) r
+returns-in-Err-clause-column c = λ k r. refused_same c.args.text.now c.in-Err.fault.column k c.in-Err.ensures.refused r
 
 pub returns-in-Err-clause-field : goal.returns-in-Err-clause-field
-returns-in-Err-clause-field c = λ k f. absurd (field_not c.args.line.now c.args.trains.now c.args.text.now c.in-Err.fault.column k (refused_at c.event_rows.result.now c.args.text.now c.in-Err.fault.column c.event_rows.ensures c.in-Err.ensures.refused) f)
+returns-in-Err-clause-field c = λ k f. absurd (field_not c.args.line.now (numbers c.args.trains.now) c.args.text.now c.in-Err.fault.column k c.in-Err.ensures.refused f)

@@ -1,8 +1,8 @@
 use Rattle.std.proofs.Common.{arith}
 use Rattle.track_points.specs.declared.ids.Dir.TheVariants.{Up}
 use Rattle.definitions.specs.Track.{seg_len}
-use Rattle.way_laws.proofs.Written_places.{front_beyond}
-use Rattle.way_path.proofs.OnSteps.{rest_is}
+use Rattle.way_laws.proofs.Rear_after.{front_beyond}
+use Rattle.way_path.proofs.Rest_is.{rest_is}
 use Rattle.way_path.proofs.on_steps.+front_on.Goals as goal
 
 pub returns-else-place-len : goal.returns-else-place-len

@@ -1,7 +1,7 @@
 use Rattle.track_points.specs.declared.ids.Dir.TheVariants.{Up}
 use Rattle.definitions.specs.Track.{seg_len}
-use Rattle.way_laws.proofs.Written_places.{rear_beyond}
-use Rattle.way_path.proofs.OnSteps.{rest_is}
+use Rattle.way_laws.proofs.Rear_after.{rear_beyond}
+use Rattle.way_path.proofs.Rest_is.{rest_is}
 use Rattle.way_path.proofs.on_steps.+rear_on.Goals as goal
 
 pub returns-else-place-len : goal.returns-else-place-len

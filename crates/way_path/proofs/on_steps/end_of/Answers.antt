@@ -1,7 +1,7 @@
 use Rattle.std.proofs.Common.{◌≡◌, length, arith}
 use Rattle.std.proofs.lemmas.Bool.Decides.{nat_tests}
 use Rattle.definitions.specs.Track.{seg_len}
-use Rattle.way_path.proofs.OnSteps.{ends_at}
+use Rattle.way_path.proofs.Rest_is.{ends_at}
 use Rattle.way_path.proofs.on_steps.end_of.Goals as goal
 
 pub returns-then-path-end : goal.returns-then-path-end

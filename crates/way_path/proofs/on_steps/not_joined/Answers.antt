@@ -1,6 +1,6 @@
 use Rattle.std.proofs.Common.{sym, ◌∙◌}
 use Rattle.track_points.specs.declared.ids.Dir.TheVariants.{Up}
-use Rattle.way_path.proofs.OnSteps.{chained_first, not_joined_at, joined_more}
+use Rattle.way_path.proofs.Rest_is.{chained_first, not_joined_at, joined_more}
 use Rattle.way_path.proofs.on_steps.not_joined.Goals as goal
 
 pub loop-i-init : goal.loop-i-init

@@ -1,6 +1,6 @@
 use Rattle.std.proofs.Common.{sym, ◌∙◌}
 use Rattle.track_points.specs.declared.ids.Dir.TheVariants.{Up}
-use Rattle.way_path.proofs.OnSteps.{once_none, repeated_at, once_more}
+use Rattle.way_path.proofs.Rest_is.{once_none, repeated_at, once_more}
 use Rattle.way_path.proofs.on_steps.repeated.Goals as goal
 
 pub loop-i-init : goal.loop-i-init

@@ -1,6 +1,6 @@
 use Rattle.std.proofs.Common.{arith, length, refl, ◌≡◌}
 use Rattle.definitions.specs.Track.{seg_len}
-use Rattle.way_path.proofs.OnSteps.{few_steps_to}
+use Rattle.way_path.proofs.Rest_is.{few_steps_to}
 use Rattle.way_path.proofs.on_steps.steps_to.Goals as goal
 
 pub add_steps-requires : goal.add_steps-requires

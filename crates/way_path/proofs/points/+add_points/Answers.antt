@@ -2,8 +2,8 @@ use Rattle.track_points.specs.declared.ids.Dir.TheVariants.{Up}
 use Rattle.track_points.specs.Sets.{has_cell}
 use Rattle.definitions.specs.Track.{layout}
 use Rattle.way_path.specs.Ways.{segment_of}
-use Rattle.way_path.proofs.OnSteps.{rest_is}
-use Rattle.way_path.proofs.BySteps.{no_more, one_step_more}
+use Rattle.way_path.proofs.Rest_is.{rest_is}
+use Rattle.way_path.proofs.As_points.{no_more, one_step_more}
 use Rattle.way_path.proofs.points.+add_points.Goals as goal
 
 pub returns-in_default-clause-cells : goal.returns-in_default-clause-cells

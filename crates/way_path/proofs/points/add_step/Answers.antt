@@ -1,4 +1,4 @@
-use Rattle.way_path.proofs.BySteps.{not_full}
+use Rattle.way_path.proofs.As_points.{not_full}
 use Rattle.way_path.proofs.points.add_step.Goals as goal
 
 pub unreachable-requires : goal.unreachable-requires

@@ -1,6 +1,6 @@
 use Rattle.std.proofs.Common.{sym, ◌∙◌}
 use Rattle.track_points.specs.Sets.{has_cell}
-use Rattle.way_path.proofs.BySteps.{step_own, step_else}
+use Rattle.way_path.proofs.As_points.{step_own, step_else}
 use Rattle.way_path.proofs.points.add_step_of.Goals as goal
 
 pub returns-then-is_of-clause-cells : goal.returns-then-is_of-clause-cells

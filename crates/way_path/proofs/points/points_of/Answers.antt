@@ -1,5 +1,5 @@
 use Rattle.track_points.specs.Sets.{held}
-use Rattle.way_path.proofs.BySteps.{as_points}
+use Rattle.way_path.proofs.As_points.{as_points}
 use Rattle.way_path.proofs.points.points_of.Goals as goal
 
 pub returns : goal.returns

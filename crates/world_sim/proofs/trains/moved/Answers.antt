@@ -1,5 +1,5 @@
 use Rattle.std.proofs.Common.{arith, ◌∙◌}
-use Rattle.world_sim.proofs.Moving.{followed, stands_on, reach_marks, goes_here}
+use Rattle.world_sim.proofs.Stands_on.{followed, stands_on, reach_marks, goes_here}
 use Rattle.world_sim.proofs.trains.moved.Goals as goal
 
 pub follower-step-requires-clause-some : goal.follower-step-requires-clause-some

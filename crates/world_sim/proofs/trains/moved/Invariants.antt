@@ -1,5 +1,5 @@
 use Rattle.std.proofs.Common.{◌+◌}
-use Rattle.world_sim.proofs.Moving.{Stands}
+use Rattle.world_sim.proofs.Stands_on.{Stands}
 use Rattle.world_sim.proofs.trains.moved.Given as goal
 
 abbrev pub invariant-loop-place : goal.invariant-loop-place

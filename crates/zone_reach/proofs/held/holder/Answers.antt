@@ -1,6 +1,6 @@
 use Rattle.std.proofs.Common.{◌<◌, length, refl, arith}
 use Rattle.plain_state.specs.Zone.{least_train, train_on}
-use Rattle.zone_reach.proofs.Walked.{least_more}
+use Rattle.zone_reach.proofs.Near_more.{least_more}
 use Rattle.zone_reach.proofs.held.holder.Goals as goal
 
 pub loop-other-init : goal.loop-other-init

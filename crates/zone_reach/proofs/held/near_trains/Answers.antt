@@ -1,8 +1,8 @@
 use Rattle.std.proofs.Common.{◌<◌, length, refl, arith}
 use Rattle.definitions.specs.Track.{seg_len}
 use Rattle.zone_reach.specs.Held.{near_trains}
-use Rattle.zone_reach.proofs.Away.{trains_within}
-use Rattle.zone_reach.proofs.Walked.{near_more}
+use Rattle.zone_reach.proofs.Train_away.{trains_within}
+use Rattle.zone_reach.proofs.Near_more.{near_more}
 use Rattle.zone_reach.proofs.held.near_trains.Goals as goal
 
 pub loop-other-init : goal.loop-other-init

@@ -1,6 +1,6 @@
 use Rattle.std.proofs.Common.{sym, ◌∙◌}
 use Rattle.definitions.specs.Track.{seg_len}
-use Rattle.zone_reach.proofs.Away.{train_away}
+use Rattle.zone_reach.proofs.Train_away.{train_away}
 use Rattle.zone_reach.proofs.held.or_near_train.Goals as goal
 
 pub returns-else-visits : goal.returns-else-visits

@@ -1,4 +1,4 @@
-use Rattle.zone_reach.proofs.Nearest.{train_on_own, train_on_else}
+use Rattle.zone_reach.proofs.First_held_is.{train_on_own, train_on_else}
 use Rattle.zone_reach.proofs.held.visited_on.Goals as goal
 
 pub returns-then-zone_of-zone : goal.returns-then-zone_of-zone

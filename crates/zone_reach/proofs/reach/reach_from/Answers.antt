@@ -2,7 +2,7 @@ use Rattle.std.proofs.Common.{rules, true, ◌≡◌, ◌∙◌, ◌&&◌}
 use Rattle.track_points.specs.Points.{end_place}
 use Rattle.definitions.specs.Track.{seg_len}
 use Rattle.definitions.specs.Limit.{asked_way, continues}
-use Rattle.zone_reach.proofs.Reaches.{end_within, reach_is, bars_all}
+use Rattle.zone_reach.proofs.Reach_is.{end_within, reach_is, bars_all}
 use Rattle.zone_reach.proofs.reach.reach_from.Goals as goal
 
 pub reach_on-requires-clause-near : goal.reach_on-requires-clause-near

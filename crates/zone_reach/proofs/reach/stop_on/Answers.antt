@@ -1,7 +1,7 @@
 use Rattle.std.proofs.Common.{◌≡◌, arith, take}
 use Rattle.track_points.specs.Points.{total}
 use Rattle.definitions.specs.Track.{seg_len}
-use Rattle.zone_reach.proofs.Reaches.{stop_after, stop_within}
+use Rattle.zone_reach.proofs.Reach_is.{stop_after, stop_within}
 use Rattle.zone_reach.proofs.reach.stop_on.Goals as goal
 
 pub returns-clause-stop : goal.returns-clause-stop

@@ -2,8 +2,8 @@ use Rattle.std.proofs.Common.{arith, get_or}
 use Rattle.definitions.specs.Track.{last_step}
 use Rattle.track_points.specs.declared.ids.Dir.TheVariants.{Up}
 use Rattle.track_points.specs.declared.ids.DirSeg.{DirSeg}
-use Rattle.way_path.proofs.OnSteps.{rest_is}
-use Rattle.zone_reach.proofs.OnSteps.{stays_full, stays_bare, joined_step, once_step, extends_ok, goes_on}
+use Rattle.way_path.proofs.Rest_is.{rest_is}
+use Rattle.zone_reach.proofs.Longer_is.{stays_full, stays_bare, joined_step, once_step, extends_ok, goes_on}
 use Rattle.zone_reach.proofs.steps.+extend_by.Goals as goal
 
 abbrev no_step : DirSeg

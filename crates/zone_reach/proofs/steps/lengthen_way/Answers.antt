@@ -1,6 +1,6 @@
 use Rattle.std.proofs.Common.{arith}
 use Rattle.definitions.specs.Track.{seg_len}
-use Rattle.zone_reach.proofs.OnSteps.{longer_is}
+use Rattle.zone_reach.proofs.Longer_is.{longer_is}
 use Rattle.zone_reach.proofs.steps.lengthen_way.Goals as goal
 
 pub returns-clause-way : goal.returns-clause-way

@@ -1,5 +1,5 @@
 use Rattle.std.proofs.Common.{take}
-use Rattle.zone_state.proofs.Alarms.{Told}
+use Rattle.zone_state.proofs.After_follows.{Told}
 use Rattle.zone_state.proofs.clock.alarms.Given as goal
 
 abbrev pub invariant-loop-x : goal.invariant-loop-x

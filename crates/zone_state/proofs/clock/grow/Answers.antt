@@ -1,4 +1,4 @@
-use Rattle.zone_state.proofs.Timed.{train_grown}
+use Rattle.zone_state.proofs.Narrowed_stands.{train_grown}
 use Rattle.zone_state.proofs.clock.grow.Goals as goal
 
 pub returns : goal.returns

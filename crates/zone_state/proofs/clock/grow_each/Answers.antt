@@ -1,7 +1,7 @@
 use Rattle.std.proofs.Common.{◌<◌, length, arith}
 use Rattle.std.proofs.lemmas.List.Edits.{map_over_more}
 use Rattle.plain_state.specs.Zone.{grown_train}
-use Rattle.zone_state.proofs.Timed.{still_as_was, grows_at, grows_own}
+use Rattle.zone_state.proofs.Narrowed_stands.{still_as_was, grows_at, grows_own}
 use Rattle.zone_state.proofs.clock.grow_each.Goals as goal
 
 pub grow-requires-clause-grows : goal.grow-requires-clause-grows

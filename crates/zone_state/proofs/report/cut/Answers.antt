@@ -1,5 +1,5 @@
 use Rattle.definitions.specs.Track.{seg_len}
-use Rattle.zone_state.proofs.Behind.{cut_train}
+use Rattle.zone_state.proofs.Cut_train.{cut_train}
 use Rattle.zone_state.proofs.report.cut.Goals as goal
 
 pub returns-clause-next : goal.returns-clause-next

@@ -1,7 +1,7 @@
 use Rattle.std.proofs.Common.{◌-◌, refl, rules, w64}
 use Rattle.std.proofs.lemmas.Int.{to_z-of_z}
 use Rattle.envelope.specs.Fronts.{farthest_move}
-use Rattle.zone_state.proofs.Timed.{fronts_kept}
+use Rattle.zone_state.proofs.Narrowed_stands.{fronts_kept}
 use Rattle.zone_state.proofs.report.narrow.Goals as goal
 
 pub returns : goal.returns

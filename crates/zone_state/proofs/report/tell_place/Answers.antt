@@ -1,6 +1,6 @@
 use Rattle.std.proofs.Common.{◌≡◌, ◌-◌, arith}
 use Rattle.definitions.specs.Track.{seg_len}
-use Rattle.way_laws.proofs.Written_places.{rear_only, front_only}
+use Rattle.way_laws.proofs.Rear_after.{rear_only, front_only}
 use Rattle.zone_state.proofs.report.tell_place.Goals as goal
 
 pub returns : goal.returns

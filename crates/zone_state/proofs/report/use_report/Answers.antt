@@ -3,8 +3,8 @@ use Rattle.std.proofs.lemmas.Int.{to_z-of_z}
 use Rattle.definitions.specs.Track.{seg_len}
 use Rattle.plain_state.specs.Zone.{narrowed_train, cut_at_rear}
 use Rattle.zone_state.specs.Zone.{TrainFits}
-use Rattle.zone_state.proofs.Reported.{marked, unchecked}
-use Rattle.zone_state.proofs.Timed.{narrowed_stands, narrowed_at}
+use Rattle.zone_state.proofs.Marked.{marked, unchecked}
+use Rattle.zone_state.proofs.Narrowed_stands.{narrowed_stands, narrowed_at}
 use Rattle.zone_state.proofs.report.use_report.Goals as goal
 
 pub cut-requires : goal.cut-requires

@@ -1,5 +1,5 @@
 use Rattle.track_points.specs.Points.{place_of_last}
-use Rattle.zone_state.proofs.Found.{entry_makes}
+use Rattle.zone_state.proofs.Found_is.{entry_makes}
 use Rattle.zone_state.proofs.trains.way_at_entry.Goals as goal
 
 pub unreachable-requires : goal.unreachable-requires

@@ -1,6 +1,5 @@
 use Rattle.std.proofs.Common.{◌∙◌, sym, ap}
 use Rattle.std.proofs.lemmas.Bool.{ne_eqb}
-use Rattle.definitions.specs.Endings.{outcomes_text}
 use Rattle.definitions.specs.Trace.{Step}
 use Rattle.byte_feed.specs.Feed.{Feed}
 use Rattle.byte_feed.proofs.Streams.{closed_none}
@@ -13,7 +12,7 @@ use Rattle.run_engine.proofs.feed.Feed.close.Goals as goal
 pub returns-then-self-eq0-clause-sends : goal.returns-then-self-eq0-clause-sends
 returns-then-self-eq0-clause-sends g c =
     nothing g.K.Sink.written g.K.Sink.faults _ _ _ _
-    (ap (λ (x : Step). outcomes_text x.lines) (closed_none (feed_shown c.args.self.now) c.if-self-eq0.true))
+    (ap (λ (x : Step). x.text) (closed_none (feed_shown c.args.self.now) c.if-self-eq0.true))
 
 pub returns-then-self-eq0-clause-next : goal.returns-then-self-eq0-clause-next
 returns-then-self-eq0-clause-next g c = sym (ap (λ (x : Step). x.next) (closed_none (feed_shown c.args.self.now) c.if-self-eq0.true))
@@ -22,7 +21,7 @@ pub returns-clause-sends : goal.returns-clause-sends
 returns-clause-sends g c =
     let f = feed_shown c.args.self.now in
     let is = closed_run f (ne_eqb _ _ c.if-self-eq0.false) in
-    other_text g.K.Sink.written g.K.Sink.faults _ _ _ _ _ _ _ (ap (λ (x : Step). outcomes_text x.lines) is) c.text_line.ensures.sends
+    other_text g.K.Sink.written g.K.Sink.faults _ _ _ _ _ _ _ (ap (λ (x : Step). x.text) is) c.text_line.ensures.sends
 
 pub returns-clause-next : goal.returns-clause-next
 returns-clause-next g c =

@@ -9,7 +9,7 @@ invariant-loop-done g l =
     record {
       so_far : l.done ≤ length l.piece;
       next : feed_shown l.self ≡ feds (feed_shown l.fn.self) (take l.done l.piece);
-      sends : Sends {X = Unit {0}} g.K.Sink.written g.K.Sink.faults l.fn.sink l.sink l.fn.self.pending.text l.self.pending.text (feds_text (feed_shown l.fn.self) (take l.done l.piece)) (Ok tt);
+      sends : Sends {X = Unit {0}} g.K.Sink.written g.K.Sink.faults l.fn.sink l.sink l.fn.self.teller.pending.text l.self.teller.pending.text (feds_text (feed_shown l.fn.self) (take l.done l.piece)) (Ok tt);
       within : Within (feed_shown l.self);
     }
 

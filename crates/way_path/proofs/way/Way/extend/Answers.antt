@@ -1,6 +1,6 @@
 use Rattle.std.proofs.Common.{sym, ◌∙◌, refl}
 use Rattle.way_path.specs.Ways.{PlacedWay}
-use Rattle.way_path.proofs.Ways.{grown_is_way, grown_on_line}
+use Rattle.way_path.proofs.Dropped_is_way.{grown_is_way, grown_on_line}
 use Rattle.way_path.proofs.way.Way.extend.Goals as goal
 
 pub invariant_of-self : goal.invariant_of-self

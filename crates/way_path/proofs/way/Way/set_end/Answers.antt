@@ -1,8 +1,8 @@
 use Rattle.std.proofs.Common.{sym, refl}
 use Rattle.definitions.specs.Track.{seg_len}
-use Rattle.way_laws.proofs.Cut.{cut_end}
+use Rattle.way_laws.proofs.Cut_front.{cut_end}
 use Rattle.way_path.specs.Ways.{PlacedWay}
-use Rattle.way_path.proofs.Ways.{ended_is_way, ended_on_line}
+use Rattle.way_path.proofs.Dropped_is_way.{ended_is_way, ended_on_line}
 use Rattle.way_path.proofs.way.Way.set_end.Goals as goal
 
 pub invariant_of-self : goal.invariant_of-self

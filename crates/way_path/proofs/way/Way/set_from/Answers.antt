@@ -1,7 +1,7 @@
 use Rattle.std.proofs.Common.{◌<◌, ◌+◌, ◌-◌, ◌≡◌, sym, refl, arith}
 use Rattle.definitions.specs.Track.{seg_len}
 use Rattle.way_path.specs.Ways.{PlacedWay}
-use Rattle.way_path.proofs.Ways.{dropped_at, dropped_some, dropped_is_way, dropped_on_line, dropped_end}
+use Rattle.way_path.proofs.Dropped_is_way.{dropped_at, dropped_some, dropped_is_way, dropped_on_line, dropped_end}
 use Rattle.way_path.proofs.way.Way.set_from.Goals as goal
 
 pub returns-clause-dropped : goal.returns-clause-dropped

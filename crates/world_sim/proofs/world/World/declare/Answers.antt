@@ -1,6 +1,6 @@
 use Rattle.std.proofs.Common.{◌≡◌, length, true, is_ok, rules, sym, arith, nat_lt}
 use Rattle.std.proofs.lemmas.Bool.Decides.{nat_tests}
-use Rattle.world_sim.proofs.Listed.{kept_push}
+use Rattle.world_sim.proofs.Changed_is.{kept_push}
 use Rattle.world_sim.proofs.world.World.declare.Goals as goal
 
 pub invariant_of-self : goal.invariant_of-self

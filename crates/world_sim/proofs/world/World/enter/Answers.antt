@@ -1,7 +1,7 @@
 use Rattle.std.proofs.Common.{refl, sym, ap}
 use Rattle.plain_state.specs.declared.WorldTrain.{WorldTrain}
 use Rattle.plain_state.specs.World.{come_on}
-use Rattle.world_sim.proofs.Listed.{found_is, absent, changed_is, unchanged, kept_set}
+use Rattle.world_sim.proofs.Changed_is.{found_is, absent, changed_is, unchanged, kept_set}
 use Rattle.world_sim.proofs.world.World.enter.Goals as goal
 
 pub invariant_of-self : goal.invariant_of-self

@@ -1,5 +1,5 @@
 use Rattle.std.proofs.Common.{sym}
-use Rattle.world_sim.proofs.Listed.{found_is, absent, speed_is}
+use Rattle.world_sim.proofs.Changed_is.{found_is, absent, speed_is}
 use Rattle.world_sim.proofs.world.World.get.Goals as goal
 
 pub returns-in-Some-clause-found : goal.returns-in-Some-clause-found

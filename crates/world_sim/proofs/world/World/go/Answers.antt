@@ -1,5 +1,5 @@
 use Rattle.std.proofs.Common.{◌<◌, length, arith}
-use Rattle.world_sim.proofs.Stays.{goes_on}
+use Rattle.world_sim.proofs.Event_stays.{goes_on}
 use Rattle.world_sim.proofs.world.World.go.Goals as goal
 
 pub loop-train-preserved : goal.loop-train-preserved

@@ -1,5 +1,5 @@
 use Rattle.std.proofs.Common.{drop}
-use Rattle.world_sim.proofs.Stays.{Going}
+use Rattle.world_sim.proofs.Event_stays.{Going}
 use Rattle.world_sim.proofs.world.World.go.Given as goal
 
 abbrev pub invariant-loop-train : goal.invariant-loop-train

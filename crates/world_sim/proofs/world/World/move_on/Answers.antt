@@ -5,7 +5,7 @@ use Rattle.plain_state.specs.declared.WorldTrain.{WorldTrain}
 use Rattle.plain_state.specs.World.{moved_train, on_found, room_found, find_train}
 use Rattle.plain_state.specs.Admits.{may_move_found}
 use Rattle.world_sim.specs.World.{AllOn}
-use Rattle.world_sim.proofs.Listed.{found_is, found_on, changed_is, unchanged, kept_set}
+use Rattle.world_sim.proofs.Changed_is.{found_is, found_on, changed_is, unchanged, kept_set}
 use Rattle.world_sim.proofs.world.World.move_on.Goals as goal
 
 pub move_on-requires-clause-head : goal.move_on-requires-clause-head

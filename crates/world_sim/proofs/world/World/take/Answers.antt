@@ -1,7 +1,7 @@
 use Rattle.std.proofs.Common.{sym, subst}
 use Rattle.definitions.specs.declared.message.Msg.TheVariants as msg
 use Rattle.world_sim.specs.World.{IsWorldOn}
-use Rattle.world_sim.proofs.Stays.{take_stays}
+use Rattle.world_sim.proofs.Event_stays.{take_stays}
 use Rattle.world_sim.proofs.world.World.take.Goals as goal
 
 pub returns-in-Some-clause-on : goal.returns-in-Some-clause-on

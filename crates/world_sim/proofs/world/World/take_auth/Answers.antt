@@ -1,8 +1,8 @@
 use Rattle.std.proofs.Common.{true, false, refl, sym, ◌∙◌}
 use Rattle.definitions.specs.Track.{seg_len}
 use Rattle.plain_state.specs.World.{took_auth}
-use Rattle.world_sim.proofs.Listed.{found_is, absent, changed_is, unchanged, put_same, kept_set}
-use Rattle.world_sim.proofs.Stays.{acts_on_is, took_keeps}
+use Rattle.world_sim.proofs.Changed_is.{found_is, absent, changed_is, unchanged, put_same, kept_set}
+use Rattle.world_sim.proofs.Event_stays.{acts_on_is, took_keeps}
 use Rattle.world_sim.proofs.world.World.take_auth.Goals as goal
 
 pub invariant_of-self : goal.invariant_of-self

@@ -2,7 +2,7 @@ use Rattle.std.proofs.Common.{List, ap, ◌∙◌}
 use Rattle.definitions.specs.Track.{seg_len}
 use Rattle.plain_state.specs.declared.Controlled.{Controlled}
 use Rattle.plain_state.specs.Zone.{PlainZone}
-use Rattle.zone_state.proofs.Found.{answered_is}
+use Rattle.zone_state.proofs.Found_is.{answered_is}
 use Rattle.zone_state.proofs.zone.Zone.act.Goals as goal
 
 pub returns-in-Answer-clause-next : goal.returns-in-Answer-clause-next

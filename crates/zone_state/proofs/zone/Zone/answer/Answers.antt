@@ -1,9 +1,9 @@
 use Rattle.std.proofs.Common.{refl, sym, ap, ◌∙◌}
 use Rattle.plain_state.specs.declared.Controlled.{Controlled}
 use Rattle.plain_state.specs.Zone.{answered_by}
-use Rattle.zone_state.proofs.Found.{changed_is, kept, fit_set, fit_found, fit_counted}
-use Rattle.zone_state.proofs.Holds.{holds_stay}
-use Rattle.zone_state.proofs.Kept.{kept_train}
+use Rattle.zone_state.proofs.Found_is.{changed_is, kept, fit_set, fit_found, fit_counted}
+use Rattle.zone_state.proofs.Holds_set.{holds_stay}
+use Rattle.zone_state.proofs.Kept_put.{kept_train}
 use Rattle.zone_state.proofs.zone.Zone.answer.Goals as goal
 
 pub invariant_of-self : goal.invariant_of-self

@@ -1,7 +1,7 @@
 use Rattle.std.proofs.Common.{sym, arith}
 use Rattle.zone_state.specs.Zone.{AllFit}
-use Rattle.zone_state.proofs.Found.{fit_found}
-use Rattle.zone_state.proofs.Shown.{envelope_none, envelope_some}
+use Rattle.zone_state.proofs.Found_is.{fit_found}
+use Rattle.zone_state.proofs.Held_some.{envelope_none, envelope_some}
 use Rattle.zone_state.proofs.zone.Zone.envelope.Goals as goal
 
 pub rear-requires : goal.rear-requires

@@ -1,5 +1,5 @@
 use Rattle.std.proofs.Common.{sym}
-use Rattle.zone_state.proofs.Shown.{held_none, held_some}
+use Rattle.zone_state.proofs.Held_some.{held_none, held_some}
 use Rattle.zone_state.proofs.zone.Zone.held.Goals as goal
 
 pub returns-in-None : goal.returns-in-None

@@ -1,9 +1,9 @@
 use Rattle.std.proofs.Common.{refl, sym, ◌∙◌}
 use Rattle.plain_state.specs.Zone.{grown_train}
-use Rattle.zone_state.proofs.Timed.{all_grown_fit, none_passes}
-use Rattle.zone_state.proofs.Found.{written}
-use Rattle.zone_state.proofs.Holds.{holds_mapped}
-use Rattle.zone_state.proofs.Kept.{kept_grown}
+use Rattle.zone_state.proofs.Narrowed_stands.{all_grown_fit, none_passes}
+use Rattle.zone_state.proofs.Found_is.{written}
+use Rattle.zone_state.proofs.Holds_set.{holds_mapped}
+use Rattle.zone_state.proofs.Kept_put.{kept_grown}
 use Rattle.zone_state.proofs.zone.Zone.pass.Goals as goal
 
 pub invariant_of-self : goal.invariant_of-self

@@ -5,10 +5,10 @@ use Rattle.way_path.specs.Ways.{plain_way}
 use Rattle.plain_state.specs.declared.Controlled.{Controlled}
 use Rattle.plain_state.specs.Zone.{reported_by, has_mark}
 use Rattle.zone_state.specs.Zone.{AllFit}
-use Rattle.zone_state.proofs.Found.{found_is, absent, changed_is, read_same, fit_found, fit_here, fit_set, fit_again}
-use Rattle.zone_state.proofs.Reported.{marked, not_marked}
-use Rattle.zone_state.proofs.Holds.{holds_set}
-use Rattle.zone_state.proofs.Kept.{kept_train, kept_hold}
+use Rattle.zone_state.proofs.Found_is.{found_is, absent, changed_is, read_same, fit_found, fit_here, fit_set, fit_again}
+use Rattle.zone_state.proofs.Marked.{marked, not_marked}
+use Rattle.zone_state.proofs.Holds_set.{holds_set}
+use Rattle.zone_state.proofs.Kept_put.{kept_train, kept_hold}
 use Rattle.zone_state.proofs.zone.Zone.report.Goals as goal
 
 pub use_report-hold-requires-clause-fits : goal.use_report-hold-requires-clause-fits

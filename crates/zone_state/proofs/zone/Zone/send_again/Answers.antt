@@ -1,5 +1,5 @@
 use Rattle.std.proofs.Common.{sym, rules}
-use Rattle.zone_state.proofs.Found.{found_is, absent}
+use Rattle.zone_state.proofs.Found_is.{found_is, absent}
 use Rattle.zone_state.proofs.zone.Zone.send_again.Goals as goal
 
 pub returns-in_default : goal.returns-in_default

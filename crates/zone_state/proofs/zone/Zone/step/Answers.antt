@@ -1,7 +1,7 @@
 use Rattle.std.proofs.Common.{◌≡◌, ap, arith}
 use Rattle.plain_state.specs.Zone.{PlainZone}
 use Rattle.zone_state.specs.Zone.{ZoneKept}
-use Rattle.zone_state.proofs.Advanced.{gives_one, stepped_follows, gave}
+use Rattle.zone_state.proofs.Stepped_follows.{gives_one, stepped_follows, gave}
 use Rattle.zone_state.proofs.zone.Zone.step.Goals as goal
 
 pub tell_alarms-requires : goal.tell_alarms-requires

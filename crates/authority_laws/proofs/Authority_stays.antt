@@ -1,0 +1,85 @@
+-- An authority stays one as the journey goes on, and the route that it lies on.
+use Rattle.std.proofs.Common.{◌≡◌, ℕ, ◌+◌, ◌<◌, ◌≤◌, ◌∷◌, length, true, false, sym, ◌∙◌, ap, arith}
+use Rattle.std.specs.List.{list_all}
+use Rattle.list_laws.proofs.Tests.{by_test}
+use Rattle.track_points.specs.Points.{steps_to}
+use Rattle.definitions.specs.Track.{Line, seg_len}
+use Rattle.definitions.specs.Premises.{on_line}
+use Rattle.definitions.specs.Story.{Transition, Story}
+use Rattle.definitions.specs.World.{is_declared, long_of, entered, journey, Authority, authority_end}
+use Rattle.definitions.specs.Longest.{longest_end, longest_route}
+use Rattle.motion_laws.proofs.Motion.{place}
+use Rattle.event_laws.proofs.Facts_stay.{declared_stays, long_stays, first_stays, entered_stays}
+use Rattle.way_laws.proofs.Cut_cut.{cut_cut}
+use Rattle.invariant_laws.proofs.Invariant.{step_begin, path_fits, AuthorityIs, FirstIs}
+use Rattle.invariant_laws.proofs.First_steps.{FirstSteps, journey_longer, begin_same, end_same, route_same}
+
+-- an authority, but for the route that it lies on
+pub record IsPath (line : Line) (t : ℕ) (s : Story) (a : Authority) : Type 0 where
+  pub declared : is_declared t s ≡ true
+  pub fits : path_fits line a.path ≡ true
+  pub above : 0 < a.path.to
+  pub own : list_all (on_line line) a.path.steps.items ≡ true
+  pub behind : step_begin line t s a.mark + a.path.from + long_of t s ≤ place t s
+  pub mark : a.mark ≤ length (journey line t s)
+
+pub is_path : (line : Line) (t : ℕ) (s : Story) (a : Authority) → AuthorityIs line t s a → IsPath line t s a
+is_path line t s a k = record { declared = k.declared; fits = k.fits; above = k.above; own = k.own; behind = k.behind; mark = k.mark }
+
+-- a train that has not come on had not before
+pub off_before : (t : ℕ) (x : Transition) (s : Story) → entered t (x ∷ s) ≡ false → entered t s ≡ false
+off_before t x s off = by_test (entered t s)
+    (λ y. absurd (let c : true ≡ false = sym (entered_stays t x s y) ∙ off in cc))
+    (λ m. m)
+
+-- One transition further the first steps of the journey stay.
+module _ (line : Line) (t : ℕ) (x : Transition) (s : Story) (first : FirstSteps line t x s) where
+  pub path_stays : (a : Authority) → place t s ≤ place t (x ∷ s) → IsPath line t s a → IsPath line t (x ∷ s) a
+  path_stays a moved k =
+      let m = begin_same line t x s first a.mark k.mark in
+      let l = long_stays t x s k.declared in
+      let behind = k.behind in
+      let mark = k.mark in
+      let longer = journey_longer line t x s first in
+      record {
+        declared = declared_stays t x s k.declared;
+        fits = k.fits;
+        above = k.above;
+        own = k.own;
+        behind = omega (arith, m, l, behind, moved);
+        mark = omega (arith, mark, longer);
+      }
+
+  pub authority_stays : (a : Authority) → place t s ≤ place t (x ∷ s) → longest_end line t s ≤ longest_end line t (x ∷ s)
+      → steps_to (seg_len line) (longest_route line t (x ∷ s)) (longest_end line t s) ≡ longest_route line t s → AuthorityIs line t s a → AuthorityIs line t (x ∷ s) a
+  authority_stays a moved grown onward k =
+      let len = seg_len line in
+      let p = path_stays a moved (is_path line t s a k) in
+      let e = end_same line t x s first a k.mark in
+      let within = k.within in
+      record {
+        declared = p.declared;
+        fits = p.fits;
+        above = p.above;
+        own = p.own;
+        behind = p.behind;
+        mark = p.mark;
+        on = route_same line t x s first a k.mark ∙ k.on
+            ∙ ap (λ xs. steps_to len xs (authority_end len (journey line t s) a)) (sym onward)
+            ∙ cut_cut len (longest_route line t (x ∷ s)) (authority_end len (journey line t s) a) (longest_end line t s) within
+            ∙ ap (steps_to len (longest_route line t (x ∷ s))) (sym e);
+        within = omega (arith, e, within, grown);
+      }
+
+pub first_is_stays : (line : Line) (t : ℕ) (x : Transition) (s : Story) (a : Authority) → is_declared t s ≡ true → FirstIs line t s a → FirstIs line t (x ∷ s) a
+first_is_stays line t x s a d k =
+    let l = long_stays t x s d in
+    let room = k.room in
+    record {
+      step = k.step;
+      first = first_stays t x s k.step k.first;
+      portal = k.portal;
+      mark = k.mark;
+      path = k.path;
+      room = omega (arith, l, room);
+    }

@@ -1,2 +1,0 @@
-pub mod Sees
-pub mod Parts

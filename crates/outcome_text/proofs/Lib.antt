@@ -1,0 +1,2 @@
+pub mod Part_texts
+pub mod Plain
