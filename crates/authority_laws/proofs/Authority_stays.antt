@@ -1,7 +1,7 @@
 -- An authority stays one as the journey goes on, and the route that it lies on.
 use Rattle.std.proofs.Common.{◌≡◌, ℕ, ◌+◌, ◌<◌, ◌≤◌, ◌∷◌, length, true, false, sym, ◌∙◌, ap, arith}
 use Rattle.std.specs.List.{list_all}
-use Rattle.list_laws.proofs.Tests.{by_test}
+use Rattle.list_laws.proofs.By_test.{by_test}
 use Rattle.track_points.specs.Points.{steps_to}
 use Rattle.definitions.specs.Track.{Line, seg_len}
 use Rattle.definitions.specs.Premises.{on_line}

@@ -19,7 +19,7 @@ use Rattle.definitions.specs.Longest.{longest_end, longest_route}
 use Rattle.definitions.specs.Fronts.{least_rear}
 use Rattle.definitions.specs.Zones.{zone_id}
 use Rattle.motion_laws.proofs.Motion.{place, Motion}
-use Rattle.event_laws.proofs.Issued.{AllIn, AllIssued, all_weaker}
+use Rattle.event_laws.proofs.Issued_all.{AllIn, AllIssued, all_weaker}
 use Rattle.event_laws.proofs.Facts_stay.{declared_stays, facts_stay, long_stays, first_stays}
 use Rattle.journey_laws.proofs.Journey_track.{journey_goes}
 use Rattle.invariant_laws.proofs.Invariant.{AuthorityIs, AuthIs, AuthTrue, SomeIs, ControlIs, Authorized}

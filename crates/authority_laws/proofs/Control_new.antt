@@ -4,7 +4,7 @@ use Rattle.std.proofs.lemmas.Bool.Decides.{nat_tests}
 use Rattle.std.proofs.lemmas.List.{length-append, length-take}
 use Rattle.std.specs.Prelude.{nat_lt}
 use Rattle.std.specs.List.{list_all}
-use Rattle.list_laws.proofs.Tests.{by_test}
+use Rattle.list_laws.proofs.By_test.{by_test}
 use Rattle.track_points.specs.declared.ids.DirSeg.{DirSeg}
 use Rattle.track_points.specs.Points.{Lengths, steps_to}
 use Rattle.definitions.specs.declared.message.Msg.{Msg}
@@ -21,7 +21,7 @@ use Rattle.definitions.specs.Fold.{account}
 use Rattle.definitions.specs.Longest.{longest_end, longest_route}
 use Rattle.definitions.specs.Fronts.{least_rear}
 use Rattle.definitions.specs.Zones.{zone_id}
-use Rattle.event_laws.proofs.Issued.{AllIn, AuthHas}
+use Rattle.event_laws.proofs.Issued_all.{AllIn, AuthHas}
 use Rattle.motion_laws.proofs.Motion.{place}
 use Rattle.event_laws.proofs.Facts_stay.{declared_stays, facts_stay, long_stays, first_stays}
 use Rattle.event_laws.proofs.Still_world.{head_still, journey_still}
@@ -32,7 +32,7 @@ use Rattle.event_laws.proofs.Account_next.{issued_is}
 use Rattle.front_laws.proofs.Taken_counts.{Counts, account_taken, taken_counts, account_again, account_longer}
 use Rattle.front_laws.proofs.Route_goes_on.{some_weaker, reads_have}
 use Rattle.authority_laws.proofs.Authority_stays.{off_before, path_stays, authority_stays, first_is_stays}
-use Rattle.authority_laws.proofs.Farthest.{farthest_none}
+use Rattle.authority_laws.proofs.Farthest_none.{farthest_none}
 use Rattle.authority_laws.proofs.Top_longest.{EndsBy, IsTop, top_longest, top_end, top_counts, top_further}
 use Rattle.authority_laws.proofs.New_auth.{NewAuth, counted_issued, reads_within, newest_top}
 

@@ -20,12 +20,12 @@ use Rattle.definitions.specs.Longest.{longest_end}
 use Rattle.definitions.specs.Zones.{zone_id}
 use Rattle.motion_laws.proofs.Motion.{Motion}
 use Rattle.event_laws.proofs.Controls_same.{controls_now}
-use Rattle.way_laws.proofs.Lines.{portal_on_line, long_on_line}
+use Rattle.way_laws.proofs.Line_builds.{portal_on_line, long_on_line}
 use Rattle.invariant_laws.proofs.Invariant.{path_fits, FirstIs, EntryIs, Authorized}
 use Rattle.invariant_laws.proofs.One_route.{first_end, uncontrolled_off}
 use Rattle.invariant_laws.proofs.First_steps.{off_journey}
 use Rattle.authority_laws.proofs.Authority_stays.{IsPath}
-use Rattle.authority_laws.proofs.Farthest.{farthest_none}
+use Rattle.authority_laws.proofs.Farthest_none.{farthest_none}
 use Rattle.authority_laws.proofs.New_auth.{NewAuth}
 
 entry_fits : (line : Line) (step : DirSeg) → 1 ≤ seg_len line step.seg.0 → path_fits line (entry_path step (seg_len line step.seg.0)) ≡ true

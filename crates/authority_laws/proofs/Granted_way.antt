@@ -5,7 +5,7 @@ use Rattle.std.proofs.lemmas.List.{take-append-drop, take-append-le, drop-append
 use Rattle.std.specs.Prelude.{nat_eq, nat_le, nat_lt}
 use Rattle.std.specs.List.{list_all}
 use Rattle.std.proofs.lemmas.Bool.{and_parts}
-use Rattle.list_laws.proofs.Tests.{by_test}
+use Rattle.list_laws.proofs.By_test.{by_test}
 use Rattle.track_points.specs.declared.ids.DirSeg.{DirSeg}
 use Rattle.track_points.specs.declared.ids.TrainId.{TrainId}
 use Rattle.track_points.specs.declared.path.Path.{Path}
@@ -37,7 +37,7 @@ use Rattle.invariant_laws.proofs.One_route.{PathParts, kept_some, kept_cut}
 use Rattle.front_laws.proofs.Way_begins.{way_behind, way_begins}
 use Rattle.authority_laws.proofs.New_auth.{NewAuth}
 use Rattle.authority_laws.proofs.Way_is.{WayIs, way_facts}
-use Rattle.authority_laws.proofs.Way_fits.{way_begin, way_end, way_route, way_path}
+use Rattle.authority_laws.proofs.Way_route.{way_begin, way_end, way_route, way_path}
 use Rattle.authority_laws.proofs.Renewed_way.{renewed}
 
 -- A path that is lengthened fits.

@@ -17,7 +17,7 @@ use Rattle.definitions.specs.Fold.{account}
 use Rattle.definitions.specs.Longest.{counted, longest_end, longest_route}
 use Rattle.definitions.specs.Fronts.{least_rear}
 use Rattle.definitions.specs.Zones.{zone_id}
-use Rattle.event_laws.proofs.Issued.{AllIssued, all_weaker}
+use Rattle.event_laws.proofs.Issued_all.{AllIssued, all_weaker}
 use Rattle.event_laws.proofs.Account_next.{issued_is}
 use Rattle.front_laws.proofs.Taken_counts.{more_counted}
 use Rattle.front_laws.proofs.Route_goes_on.{some_weaker}

@@ -31,7 +31,7 @@ use Rattle.front_laws.proofs.Way_begins.{way_behind, way_begins}
 use Rattle.authority_laws.proofs.Authority_stays.{IsPath}
 use Rattle.authority_laws.proofs.New_auth.{NewAuth}
 use Rattle.authority_laws.proofs.Way_is.{WayIs, way_facts}
-use Rattle.authority_laws.proofs.Way_fits.{fits_between, way_begin, way_end, way_route, way_path}
+use Rattle.authority_laws.proofs.Way_route.{fits_between, way_begin, way_end, way_route, way_path}
 
 -- the way over one step
 step_between : (len : Lengths) (st : DirSeg) → 0 < len st.seg.0 → way_between len (st ∷ []) 0 (len st.seg.0) ≡ record { mark = 0; path = entry_path st (len st.seg.0) }

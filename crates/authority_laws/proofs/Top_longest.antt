@@ -2,7 +2,7 @@
 use Rattle.std.proofs.Common.{◌≡◌, ℕ, ◌≤◌, List, Option, Some, true, refl, sym, ◌∙◌, ap, subst, arith}
 use Rattle.std.proofs.lemmas.Bool.Decides.{nat_tests}
 use Rattle.std.specs.Prelude.{nat_eq}
-use Rattle.list_laws.proofs.Tests.{by_test}
+use Rattle.list_laws.proofs.By_test.{by_test}
 use Rattle.track_points.specs.declared.ids.DirSeg.{DirSeg}
 use Rattle.track_points.specs.Points.{Lengths}
 use Rattle.definitions.specs.World.{Authority, authority_end}
@@ -11,7 +11,7 @@ use Rattle.definitions.specs.Account.{Account, longest_of, end_of, with_at}
 use Rattle.invariant_laws.proofs.Invariant.{SomeIs}
 use Rattle.front_laws.proofs.Route_goes_on.{some_weaker}
 use Rattle.front_laws.proofs.Taken_counts.{Counts}
-use Rattle.authority_laws.proofs.Farthest.{farthest_last}
+use Rattle.authority_laws.proofs.Farthest_none.{farthest_last}
 
 -- it ends at a place or before it
 abbrev pub EndsBy : Lengths → List DirSeg → ℕ → Authority → Type 0

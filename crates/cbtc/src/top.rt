@@ -3,6 +3,7 @@ ghost use Rattle.std.specs.Prelude.{◌≡◌, map, IfSome};
 ghost use Rattle.document_laws.specs.Throughout.{SafeThroughout};
 ghost use Rattle.std.specs.String.{string_bytes};
 ghost use Rattle.run_engine.specs.Running.{Causes, AtEnd};
+ghost use Rattle.run_engine.specs.Complete.{NeverMessages};
 ghost use Rattle.cbtc.specs.Commands.{command_of, answer_to, Answered, ReadCutUnder, CompleteUnder, RefusesUnder};
 
 use definitions::document::Command;
@@ -23,7 +24,7 @@ fn command_of(words: &[String]) -> Option<Command>
     }
 }
 
-#[tactic(auto, using(run_engine::proofs::Completing::all_safe))]
+#[tactic(auto, using(run_engine::proofs::All_safe::all_safe, run_engine::proofs::All_safe::no_messages))]
 /// Runs the command that the words name.
 pub fn cbtc_top<S: Source, K: Sink, G: Gate + Sync>(
     alloc: Global,
@@ -49,6 +50,8 @@ pub fn cbtc_top<S: Source, K: Sink, G: Gate + Sync>(
     ensures refuses { RefusesUnder (command_of (map string_bytes words.now)) result (S.left src.old) (K.written sink.old) (K.written sink.new) (S.faults src.old) (S.faults src.new) (K.faults sink.old) (K.faults sink.new) }
     // The history that the bytes are is safe after each of its events, and each event added what it granted.
     ensures safe { IfSome (S.left src.old) SafeThroughout }
+    // No last line tells of the limit on messages.
+    ensures few { IfSome (S.left src.old) NeverMessages }
 {
     let _ = gate;
     match command_of(words) {

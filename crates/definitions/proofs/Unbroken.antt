@@ -1,6 +1,6 @@
 -- What an item keeps that breaks no rule, rule by rule.
 use Rattle.std.proofs.Common.{◌≡◌, List, false}
-use Rattle.list_laws.proofs.Tests.{by_test}
+use Rattle.list_laws.proofs.By_test.{by_test}
 use Rattle.definitions.specs.declared.item.Item.{Item}
 use Rattle.definitions.specs.Numbers.{least}
 use Rattle.definitions.specs.Rules.{is_again, names_unknown, is_out_of_range, is_too_many, uses_again, joins_itself, rule_of}

@@ -2,7 +2,7 @@
 use Rattle.std.proofs.Common.{ℕ, suc, ◌+◌, ◌≤◌, List, [], ◌∷◌, length, subst, arith}
 use Rattle.std.proofs.lemmas.Bool.{eqb-true}
 use Rattle.std.specs.Prelude.{nat_eq, Some, None}
-use Rattle.list_laws.proofs.Tests.{by_test}
+use Rattle.list_laws.proofs.By_test.{by_test}
 use Rattle.track_points.specs.declared.ids.TrainId.{TrainId}
 use Rattle.track_points.specs.declared.path.Path.{Path}
 use Rattle.definitions.specs.declared.event.Event.{Event}
@@ -14,7 +14,7 @@ use Rattle.definitions.specs.Story.{Transition, Story, greatest_in, greatest_iss
 use Rattle.definitions.specs.World.{auth_number}
 use Rattle.definitions.specs.Control.{last_issued}
 use Rattle.definitions.specs.Steps.{transition, world_takes, zone_step, effects, story_of}
-use Rattle.event_laws.proofs.Issued.{AllIn, NoAuth}
+use Rattle.event_laws.proofs.Issued_all.{AllIn, NoAuth}
 use Rattle.event_laws.proofs.Last_quiet.{last_quiet}
 use Rattle.event_laws.proofs.Zone_issues.{train_of, asks, zone_each, world_none}
 use Rattle.event_laws.proofs.By_does.{by_does, told_none}

@@ -3,7 +3,7 @@ use Rattle.std.proofs.Common.{◌≡◌, ℕ, ◌+◌, ◌≤◌, List, [], ◌�
 use Rattle.std.proofs.lemmas.Bool.{and_parts}
 use Rattle.std.specs.Prelude.{nat_eq, count_by}
 use Rattle.std.specs.List.{list_any}
-use Rattle.list_laws.proofs.Tests.{by_test}
+use Rattle.list_laws.proofs.By_test.{by_test}
 use Rattle.definitions.specs.declared.item.Item.{Item}
 use Rattle.definitions.specs.declared.item.Item.TheVariants.{Zone, Segment, Joint, Portal, Buffer, Silent}
 use Rattle.definitions.specs.declared.event.Event.{Event}
@@ -16,7 +16,7 @@ use Rattle.definitions.specs.Rules.{rule_of, finish_rule, is_any_zone, builds}
 use Rattle.definitions.specs.Trace.{Stage, Items, Reading, After, counted, quiet, again, begun, start, input_limit, among_items, stage_read, second_zone}
 use Rattle.document_laws.specs.Throughout.{stands}
 use Rattle.document_laws.specs.Whole.{saying_item, said_items, SayItems, SayScript}
-use Rattle.document_laws.proofs.Throughout.{zones_append}
+use Rattle.document_laws.proofs.Safe_throughout.{zones_append}
 use Rattle.document_laws.proofs.Leads.{bytes_of, bytes_front, Leads, leads_nowhere, leads_more, leads_then}
 use Rattle.document_laws.proofs.Written.{says_nothing, passed_says, written, written_none, passed_written, said_written}
 

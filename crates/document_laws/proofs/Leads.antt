@@ -2,14 +2,14 @@
 use Rattle.std.proofs.Common.{◌≡◌, ℕ, ◌+◌, ◌≤◌, List, [], ◌∷◌, ◌++◌, length, false, refl, sym, ◌∙◌, ap, append_assoc, append-nil, length-append, arith}
 use Rattle.std.proofs.lemmas.Bool.{le-ltb}
 use Rattle.std.specs.Prelude.{nat_eq}
-use Rattle.list_laws.proofs.Tests.{by_test}
+use Rattle.list_laws.proofs.By_test.{by_test}
 use Rattle.definitions.specs.declared.document.Command.{Command}
 use Rattle.definitions.specs.declared.document.Ending.{Ending}
 use Rattle.definitions.specs.Lines.{text_lines, text_of, onto_first}
 use Rattle.definitions.specs.Trace.{Stage, Over, Reading, After, Step, counted, start, is_over, input_limit, text_read, line_read, stage_read, stage_ends, behind, ended, given}
 use Rattle.byte_feed.specs.Feed.{lines_text}
-use Rattle.byte_feed.proofs.Pieces.{behind_behind}
-use Rattle.byte_feed.proofs.Streams.{given_over}
+use Rattle.byte_feed.proofs.Feds_append.{behind_behind}
+use Rattle.byte_feed.proofs.Trace_fed.{given_over}
 use Rattle.document_laws.specs.Throughout.{stands}
 
 -- the bytes of text lines

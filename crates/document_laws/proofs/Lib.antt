@@ -1,14 +1,19 @@
-mod Train_kind
+mod Form_fits
+mod Asked_all
+mod Offset_ranged
 pub mod Said_built
-pub mod Delivered
+mod Delivery_takes
+pub mod Has_room
+pub mod Alone_leads
 mod Few_numbers
 pub mod Slow_clock
-pub mod Throughout
+pub mod Safe_throughout
 mod Leads
 mod Written
 mod Items_lead
 mod Run_leads
 mod Check_leads
 pub mod Whole
-pub mod Refused
+pub mod Other_ending
+pub mod Refused_in_script
 mod Worked

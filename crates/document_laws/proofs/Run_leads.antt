@@ -1,7 +1,7 @@
 -- Where text lines lead that say the events of a script that is run, and what they give.
 use Rattle.std.proofs.Common.{◌≡◌, ℕ, ◌+◌, ◌≤◌, List, [], ◌∷◌, ◌++◌, length, map, true, false, refl, sym, ◌∙◌, ap, subst, arith}
-use Rattle.std.proofs.lemmas.Bool.{le-ltb}
-use Rattle.std.specs.Prelude.{nat_eq, count_by}
+use Rattle.std.proofs.Math.Bool.{and-false}
+use Rattle.std.specs.Prelude.{nat_eq, count_by, is_none, ◌&&◌, not, None}
 use Rattle.std.specs.List.{list_all}
 use Rattle.definitions.specs.declared.item.Item.{Item}
 use Rattle.definitions.specs.declared.event.Event.{Event}
@@ -16,13 +16,14 @@ use Rattle.definitions.specs.Rules.{finish_rule, is_any_zone, builds}
 use Rattle.definitions.specs.Track.{Line}
 use Rattle.definitions.specs.World.{with_train, trains}
 use Rattle.definitions.specs.Premises.{built, too_many, premise_of, admits}
-use Rattle.definitions.specs.Steps.{story_of, actors, deliveries}
+use Rattle.definitions.specs.Steps.{story_of, deliveries}
 use Rattle.definitions.specs.Endings.{outcomes_text}
-use Rattle.definitions.specs.Trace.{Stage, Script, Reading, After, counted, quiet, start, input_limit, event_limit, in_script, stage_read, went, stands_for, passes_limit}
+use Rattle.definitions.specs.Trace.{Stage, Script, Reading, After, counted, quiet, start, input_limit, event_limit, Came, no_room, comes, event_comes, came, in_script, stage_read, went, stands_for}
 use Rattle.event_laws.proofs.By_does.{effect_event}
 use Rattle.document_laws.specs.Whole.{saying_event, knowing, said_events, SayEvents, SayScript, behind_event, behind_events, Admitted}
-use Rattle.document_laws.proofs.Throughout.{all_three, went_longer}
-use Rattle.document_laws.proofs.Delivered.{is_take, delivery_takes}
+use Rattle.document_laws.proofs.Safe_throughout.{all_three}
+use Rattle.document_laws.proofs.Has_room.{comes_went}
+use Rattle.document_laws.proofs.Delivery_takes.{is_take, delivery_takes}
 use Rattle.document_laws.proofs.Leads.{bytes_of, Leads, leads_nowhere, leads_more}
 use Rattle.document_laws.proofs.Items_lead.{script_leads}
 
@@ -40,10 +41,15 @@ trains_still line (_ ∷ more) events h = absurd cc
 
 trains_behind : (line : Line) (events : List Event) (e : Event) → trains (story_of line (behind_event line events e)) ≡ with_train e (trains (story_of line events))
 unfolding went
-trains_behind line events (Deliver to) = trains_still line (deliveries line (story_of line events) to) events (delivery_takes line to (story_of line events) actors)
+trains_behind line events (Deliver to) = trains_still line (deliveries line (story_of line events) to) events (delivery_takes line to (story_of line events))
 trains_behind line events e = trains_more line e events
 
--- The limit on events.
+-- The limits.
+
+went_longer : (line : Line) (more before : List Event) → length (went line before more).events ≡ length before + length more
+unfolding went
+went_longer line [] before = omega arith
+went_longer line (e ∷ more) before = let i = went_longer line more (e ∷ before) in omega (arith, i)
 
 behind_longer : (line : Line) (events before : List Event) → length before ≤ length (behind_events line before events)
 unfolding behind_events
@@ -53,12 +59,13 @@ behind_longer line (e ∷ events) before =
     let w = went_longer line (stands_for line (story_of line before) e) before in
     omega (arith, i, w)
 
-has_room : (line : Line) (before : List Event) (e : Event) (events : List Event) → length (behind_events line before (e ∷ events)) ≤ event_limit → passes_limit before (stands_for line (story_of line before) e) ≡ false
+all_come : (line : Line) (before : List Event) (e : Event) (events : List Event) → length (behind_events line before (e ∷ events)) ≤ event_limit
+    → comes line before (stands_for line (story_of line before) e) ≡ record { went = went line before (stands_for line (story_of line before) e); ending = None }
 unfolding behind_events
-has_room line before e events few =
+all_come line before e events few =
     let i = behind_longer line events (behind_event line before e) in
     let w = went_longer line (stands_for line (story_of line before) e) before in
-    le-ltb event_limit (length before + length (stands_for line (story_of line before) e)) (omega (arith, i, w, few))
+    comes_went line (stands_for line (story_of line before) e) before (omega (arith, i, w, few))
 
 -- A text line of the script, by what it says.
 
@@ -76,10 +83,17 @@ lines_of line before e = (went line before (stands_for line (story_of line befor
 abbrev gone : Line → List Event → ℕ → Event → After
 gone line before count e = record { stage = Script line (behind_event line before e) (count + 1); text = outcomes_text (lines_of line before e) }
 
-event_goes : (n : ℕ) (line : Line) (before : List Event) (count : ℕ) (e : Event) → admits line (story_of line before) e ≡ true → passes_limit before (stands_for line (story_of line before) e) ≡ false → in_script n line before count (tells.Event e) ≡ gone line before count e
-event_goes n line before count e h few =
-    let k = all_three (built line (story_of line before) e) (too_many (story_of line before) e) (nat_eq (premise_of line (story_of line before) e) 0) h in
-    rw (k.1, few, k.2) refl
+abbrev came_all : Line → List Event → Event → Came
+came_all line before e = record { went = went line before (stands_for line (story_of line before) e); ending = None }
+
+event_goes : (n : ℕ) (line : Line) (before : List Event) (count : ℕ) (e : Event) → admits line (story_of line before) e ≡ true → comes line before (stands_for line (story_of line before) e) ≡ came_all line before e
+    → in_script n line before count (tells.Event e) ≡ gone line before count e
+event_goes n line before count e h all =
+    let s = story_of line before in
+    let k = all_three (built line s e) (too_many s e) (nat_eq (premise_of line s e) 0) h in
+    let kept : (is_none (no_room before s) && not (nat_eq (premise_of line s e) 0)) ≡ false = rw k.2 (and-false (is_none (no_room before s))) in
+    let is : event_comes n line before s e ≡ came_all line before e = rw (k.1, kept) all in
+    ap (came line count) is
 
 -- the outcome lines of further events of a script
 unfoldable pub lines_behind : Line → List Event → List Event → List ℕ
@@ -110,7 +124,7 @@ event_leads line l ls ih (tells.Event e) r before count (f ∷ events) says_ by 
     subst (λ (k : ℕ). Leads r (l ∷ ls) (Script line (behind_events line (behind_event line before f) events) k) (outcomes_text (lines_of line before f) ++ lines_behind line (behind_event line before f) events)) n
     (leads_more r (Script line before count) (Script line (behind_events line (behind_event line before f) events) (count + 1 + length events)) l ls x (lines_behind line (behind_event line before f) events) at refl (omega (arith, within))
     (ap (λ c. stage_read c (r.number + 1) (Script line before count) (text_of l)) by
-    ∙ (script_reads (r.number + 1) line before count (text_of l) (tells.Event f) (says_ ∙ ap tells.Event same) ∙ event_goes (r.number + 1) line before count f ok.0 (has_room line before f events few)))
+    ∙ (script_reads (r.number + 1) line before count (text_of l) (tells.Event f) (says_ ∙ ap tells.Event same) ∙ event_goes (r.number + 1) line before count f ok.0 (all_come line before f events few)))
     (ih (counted r (length l) x).next (behind_event line before f) (count + 1) events by refl (ap (λ (ks : List ℕ). said_events line ks ls) (sym known) ∙ more) ok.1 few (omega (arith, within))))
 event_leads line l ls ih tells.Unbuilt r before count [] says_ by at said ok few within = absurd cc
 event_leads line l ls ih tells.Unbuilt r before count (f ∷ events) says_ by at said ok few within = absurd cc

@@ -1,10 +1,10 @@
 -- An event that a text line says has a meaning, and what it names is declared: so it is built.
-use Rattle.std.proofs.Common.{◌≡◌, ℕ, zero, suc, ◌+◌, List, [], ◌∷◌, Bool, true, false, ◌&&◌, ◌||◌, not, refl, sym, ◌∙◌, ap, subst, arith}
+use Rattle.std.proofs.Common.{◌≡◌, ℕ, zero, suc, ◌+◌, ◌≤◌, List, [], ◌∷◌, length, true, false, ◌&&◌, ◌||◌, not, refl, sym, ◌∙◌, ap, subst, arith}
 use Rattle.std.proofs.lemmas.Bool.Decides.{nat_tests}
-use Rattle.std.proofs.lemmas.Bool.{eqb-true, and_parts, and_from, or_parts, not-true, not-false}
+use Rattle.std.proofs.lemmas.Bool.{eqb-true, and_parts, and_from, or_parts, not-true, not-false, le-leb, lt-ltb}
 use Rattle.std.specs.Prelude.{nat_eq, nat_lt, nat_le, Option, Some, None, is_some, Result, Ok, Err}
 use Rattle.std.specs.List.{list_all, list_any}
-use Rattle.list_laws.proofs.Tests.{by_test}
+use Rattle.list_laws.proofs.By_test.{by_test}
 use Rattle.text_forms.specs.Reading.{form_at}
 use Rattle.track_points.specs.declared.ids.DirSeg.{DirSeg}
 use Rattle.track_points.specs.declared.ids.TrainId.{TrainId}
@@ -18,8 +18,10 @@ use Rattle.definitions.specs.EventText.{event_forms}
 use Rattle.definitions.specs.EventReading.{event_or, line_or, told}
 use Rattle.definitions.specs.Grammar.{is_passed, event_line_of}
 use Rattle.definitions.specs.Premises.{on_line, known_train, ascending, built}
-use Rattle.definitions.specs.EventFields.{event_of, built_forms, is_unbuilt, tried, has_train, names_segment, kind_of, offset_of, is_offset, declares_unequipped, names_train, names_zone, names_actor, train_id, step_of, and_step, asked_of, and_move, moves_of, train_of, entry_of, enter_of, and_ms, step_event_of, report_of, time_of, and_asks, ask_of, take_of, deliver_of}
-use Rattle.document_laws.proofs.Train_kind.{same_ok, KindFits, form_kind}
+use Rattle.definitions.specs.EventFields.{event_of, built_forms, is_unbuilt, has_train, names_segment, kind_of, offset_of, is_offset, declares_unequipped, names_train, names_zone, names_actor, train_id, step_of, asked_of, and_move, moves_of, train_of, entry_of, enter_of, and_ms, step_event_of, report_of, time_of, and_asks, ask_of, take_of, deliver_of, noise_of, round_of, lost_of}
+use Rattle.document_laws.proofs.Asked_all.{tried_ok, segment_named, asked_all}
+use Rattle.document_laws.proofs.Offset_ranged.{offset_ranged}
+use Rattle.document_laws.proofs.Form_fits.{same_ok, KindFits, FormFits, form_fits}
 
 -- A train that was declared.
 
@@ -43,10 +45,6 @@ has_declared t (e ∷ s) = declared_more t s e.event (has_declared t s)
 
 -- What stands where a field was not refused.
 
-tried_ok : {A : Type 0} (b : Bool) (k : ℕ) (r : Result A ℕ) (x : A) → tried b k r ≡ Ok x → (b ≡ true) × (r ≡ Ok x)
-tried_ok true k r x h = (refl, h)
-tried_ok false k r x h = absurd cc
-
 named : (t : ℕ) (s : Story) → names_train (trains s) t ≡ true → is_declared t s ≡ true
 named t s h = sym (has_declared t s) ∙ (and_parts (ranged 1 65535 t) (has_train (trains s) t) h).1
 
@@ -59,24 +57,6 @@ actor_named line a h = by_test (nat_eq a 0)
     (λ n. rw n (zone_named line a (rw n at h)))
 
 -- Lists.
-
-and_step_ok : (st : DirSeg) (r : Result (List DirSeg × ℕ) ℕ) (x : List DirSeg × ℕ) → and_step st r ≡ Ok x → (y : List DirSeg × ℕ) × ((r ≡ Ok y) × (x.0 ≡ st ∷ y.0))
-and_step_ok st (Ok y) x h = (y, (refl, sym (ap (λ (z : List DirSeg × ℕ). z.0) (same_ok (st ∷ y.0, y.1) x _ refl h))))
-and_step_ok st (Err k) x h = absurd cc
-
-segment_named : (line : Line) (n : ℕ) → names_segment line n ≡ true → has_segment line n ≡ true
-segment_named line n h = (and_parts (ranged 1 32767 n) (has_segment line n) h).1
-
-asked_on : (line : Line) (k : ℕ) (vs : List ℕ) (x : List DirSeg × ℕ) → asked_of line k vs ≡ Ok x → list_all (on_line line) x.0 ≡ true
-unfolding asked_of
-asked_on line k [] x h = absurd cc
-asked_on line k (to ∷ []) x h =
-    let a = tried_ok (ranged 1 10000000 to) k (Ok ([], to)) x h in
-    ap (λ (z : List DirSeg × ℕ). list_all (on_line line) z.0) (sym (same_ok ([], to) x _ refl a.1))
-asked_on line k (n ∷ sign ∷ vs) x h =
-    let a = tried_ok (names_segment line n) k (and_step (step_of n sign) (asked_of line (k + 1) vs)) x h in
-    let b = and_step_ok (step_of n sign) (asked_of line (k + 1) vs) x a.1 in
-    ap (list_all (on_line line)) b.1.1 ∙ and_from (has_segment line n) (list_all (on_line line) b.0.0) (segment_named line n a.0) (asked_on line (k + 1) vs b.0 b.1.0)
 
 and_move_ok : (m : TrainId × ℕ) (r : Result (List (TrainId × ℕ)) ℕ) (x : List (TrainId × ℕ)) → and_move m r ≡ Ok x → (y : List (TrainId × ℕ)) × ((r ≡ Ok y) × (x ≡ m ∷ y))
 and_move_ok m (Ok y) x h = (y, (refl, sym (same_ok (m ∷ y) x _ refl h)))
@@ -142,21 +122,27 @@ module _ (line : Line) (s : Story) where
       let c = tried_ok (names_segment line n) 3 _ e b.1 in
       let d = tried_ok (is_offset off) 4 _ e c.1 in
       let f = tried_ok (nat_le flag 1) 5 (Ok x) e d.1 in
-      subst (λ (x : Event). built line s x ≡ true) (same_ok x e _ refl f.1) (and_from (is_declared t s) _ (named t s a.0) (and_from (has_zone line z) (has_segment line n) (zone_named line z b.0) (segment_named line n c.0)))
+      subst (λ (x : Event). built line s x ≡ true) (same_ok x e _ refl f.1) (and_from (is_declared t s) _ (named t s a.0) (and_from (has_zone line z) _ (zone_named line z b.0) (and_from (has_segment line n) _ (segment_named line n c.0) (offset_ranged off d.0))))
   report_built _ e h = absurd cc
 
   and_asks_ok : (t z : ℕ) (r : Result (List DirSeg × ℕ) ℕ) (e : Event) → and_asks t z r ≡ Ok e → (y : List DirSeg × ℕ) × ((r ≡ Ok y) × (is.Ask (train_id t) (record { 0 = z }) (record { items = y.0 }) y.1 ≡ e))
   and_asks_ok t z (Ok y) e h = (y, (refl, same_ok (is.Ask (train_id t) (record { 0 = z }) (record { items = y.0 }) y.1) e _ refl h))
   and_asks_ok t z (Err k) e h = absurd cc
 
-  ask_built : (vs : List ℕ) (e : Event) → ask_of line (trains s) vs ≡ Ok e → built line s e ≡ true
-  ask_built [] e h = absurd cc
-  ask_built (t ∷ []) e h = absurd cc
-  ask_built (t ∷ z ∷ vs) e h =
+  ask_built : (vs : List ℕ) (e : Event) → (5 ≤ length vs) × (length vs ≤ 51) → ask_of line (trains s) vs ≡ Ok e → built line s e ≡ true
+  ask_built [] e n h = absurd cc
+  ask_built (t ∷ []) e n h = absurd cc
+  ask_built (t ∷ z ∷ vs) e n h =
       let a = tried_ok (names_train (trains s) t) 1 _ e h in
       let b = tried_ok (names_zone line z) 2 _ e a.1 in
       let c = and_asks_ok t z (asked_of line 3 vs) e b.1 in
-      subst (λ (x : Event). built line s x ≡ true) c.1.1 (and_from (is_declared t s) _ (named t s a.0) (and_from (has_zone line z) _ (zone_named line z b.0) (asked_on line 3 vs c.0 c.1.0)))
+      let k = asked_all line 3 vs c.0 c.1.0 in
+      let count = k.count in
+      let lo = n.0 in
+      let hi = n.1 in
+      let few : ranged 1 24 (length c.0.0) ≡ true = and_from (nat_le 1 (length c.0.0)) (nat_le (length c.0.0) 24) (le-leb 1 (length c.0.0) (omega (arith, count, lo))) (le-leb (length c.0.0) 24 (omega (arith, count, hi))) in
+      subst (λ (x : Event). built line s x ≡ true) c.1.1
+      (and_from (is_declared t s) _ (named t s a.0) (and_from (has_zone line z) _ (zone_named line z b.0) (and_from (ranged 1 24 (length c.0.0)) _ few (and_from (list_all (on_line line) c.0.0) _ k.on k.to))))
 
   take_built : (vs : List ℕ) (e : Event) → take_of line vs ≡ Ok e → built line s e ≡ true
   take_built (to ∷ from ∷ n ∷ []) e h =
@@ -168,6 +154,35 @@ module _ (line : Line) (s : Story) where
       let other : nat_eq to from ≡ false = let o = not-true (nat_eq from to) d.1 in grind (arith, nat_tests) in
       subst (λ (x : Event). built line s x ≡ true) (same_ok x e _ refl c.1) (rw other (and_from (is_actor line to) (is_actor line from) (actor_named line to a.0) (actor_named line from d.0)))
   take_built _ e h = absurd cc
+
+  noise_built : (vs : List ℕ) (e : Event) → 3 ≤ length vs → noise_of line vs ≡ Ok e → built line s e ≡ true
+  noise_built (to ∷ from ∷ bytes) e n h =
+      let x = is.Noise to from (record { items = bytes }) in
+      let a = tried_ok (names_actor line to) 1 _ e h in
+      let b = tried_ok (names_actor line from && not (nat_eq from to)) 2 (Ok x) e a.1 in
+      let d = and_parts (names_actor line from) (not (nat_eq from to)) b.0 in
+      let other : nat_eq to from ≡ false = let o = not-true (nat_eq from to) d.1 in grind (arith, nat_tests) in
+      let some : nat_lt 0 (length bytes) ≡ true = lt-ltb 0 (length bytes) (omega (arith, n)) in
+      subst (λ (x : Event). built line s x ≡ true) (same_ok x e _ refl b.1)
+      (rw other (and_from (is_actor line to) _ (actor_named line to a.0) (and_from (is_actor line from) _ (actor_named line from d.0) some)))
+  noise_built _ e n h = absurd cc
+
+  round_built : (vs : List ℕ) (e : Event) → round_of vs ≡ Ok e → built line s e ≡ true
+  round_built (n ∷ []) e h =
+      let a = tried_ok (ranged 1 2000 n) 1 (Ok (is.Round n)) e h in
+      subst (λ (x : Event). built line s x ≡ true) (same_ok (is.Round n) e _ refl a.1) a.0
+  round_built _ e h = absurd cc
+
+  lost_built : (vs : List ℕ) (e : Event) → lost_of line vs ≡ Ok e → built line s e ≡ true
+  lost_built (from ∷ to ∷ n ∷ []) e h =
+      let x = is.Lost from to n in
+      let a = tried_ok (names_actor line from) 1 _ e h in
+      let b = tried_ok (names_actor line to && not (nat_eq to from)) 2 _ e a.1 in
+      let c = tried_ok (ranged 1 4294967295 n) 3 (Ok x) e b.1 in
+      let d = and_parts (names_actor line to) (not (nat_eq to from)) b.0 in
+      let other = not-true (nat_eq to from) d.1 in
+      subst (λ (x : Event). built line s x ≡ true) (same_ok x e _ refl c.1) (rw other (and_from (is_actor line from) (is_actor line to) (actor_named line from a.0) (actor_named line to d.0)))
+  lost_built _ e h = absurd cc
 
   deliver_built : (vs : List ℕ) (e : Event) → deliver_of line vs ≡ Ok e → built line s e ≡ true
   deliver_built (to ∷ []) e h =
@@ -193,7 +208,7 @@ module _ (line : Line) (s : Story) where
 
 module _ (line : Line) (s : Story) where
   abbrev FormBuilt : ℕ → Type 0
-  FormBuilt i = (vs : List ℕ) (e : Event) → declares_unequipped i vs ≡ false → (i ≡ 0 → KindFits vs) → event_of line (trains s) i vs ≡ Ok e → built line s e ≡ true
+  FormBuilt i = (vs : List ℕ) (e : Event) → declares_unequipped i vs ≡ false → FormFits i vs → event_of line (trains s) i vs ≡ Ok e → built line s e ≡ true
 
   abbrev Each : List ℕ → Type 0
   Each [] = Unit {0}
@@ -208,25 +223,22 @@ module _ (line : Line) (s : Story) where
   all_built : Each built_forms
   unfolding event_of
   all_built = (
-    λ vs e u fits h. train_built line s vs e u (fits refl) h,
+    λ vs e u f h. train_built line s vs e u (f.kind refl) h,
     (
-      λ vs e u fits h. entry_built line s vs e h,
+      λ vs e u f h. entry_built line s vs e h,
       (
-        λ vs e u fits h. enter_built line s vs e h,
+        λ vs e u f h. enter_built line s vs e h,
         (
-          λ vs e u fits h. step_built line s vs e h,
+          λ vs e u f h. step_built line s vs e h,
           (
-            λ vs e u fits h. report_built line s vs e h,
+            λ vs e u f h. report_built line s vs e h,
             (
-              λ vs e u fits h. time_built line s vs e h,
+              λ vs e u f h. time_built line s vs e h,
               (
-                λ vs e u fits h. ask_built line s vs e h,
+                λ vs e u f h. ask_built line s vs e (f.asks refl) h,
                 (
-                  λ vs e u fits h. take_built line s vs e h,
-                  (
-                    λ vs e u fits h. deliver_built line s vs e h,
-                    tt,
-                  ),
+                  λ vs e u f h. take_built line s vs e h,
+                  (λ vs e u f h. deliver_built line s vs e h, (λ vs e u f h. noise_built line s vs e (f.noise refl) h, (λ vs e u f h. round_built line s vs e h, (λ vs e u f h. lost_built line s vs e h, tt)))),
                 ),
               ),
             ),
@@ -236,7 +248,7 @@ module _ (line : Line) (s : Story) where
     ),
   )
 
-  said_form : (text : List ℕ) (r : Result (ℕ × List ℕ) ℕ) (e : Event) → ((x : ℕ × List ℕ) → r ≡ Ok x → x.0 ≡ 0 → KindFits x.1) → told line (trains s) text r ≡ tells.Event e → built line s e ≡ true
+  said_form : (text : List ℕ) (r : Result (ℕ × List ℕ) ℕ) (e : Event) → ((x : ℕ × List ℕ) → r ≡ Ok x → FormFits x.0 x.1) → told line (trains s) text r ≡ tells.Event e → built line s e ≡ true
   said_form text (Err column) e fits h = absurd cc
   said_form text (Ok x) e fits h = by_test (is_unbuilt x.0 x.1)
       (λ y. absurd (let c : tells.Unbuilt ≡ tells.Event e = rw y at h in cc))
@@ -254,4 +266,4 @@ module _ (line : Line) (s : Story) where
   unfolding event_line_of
   said_built text e h = by_test (is_passed text)
       (λ p. absurd (let c : tells.Passed ≡ tells.Event e = rw p at h in cc))
-      (λ p. said_form text (form_at event_forms text) e (form_kind text) (rw p at h))
+      (λ p. said_form text (form_at event_forms text) e (form_fits text) (rw p at h))

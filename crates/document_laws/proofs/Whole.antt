@@ -5,6 +5,7 @@ use Rattle.std.proofs.lemmas.Grind.{flat_map-append}
 use Rattle.std.specs.Prelude.{flat_map}
 use Rattle.definitions.specs.declared.item.Item.{Item}
 use Rattle.definitions.specs.declared.event.Event.{Event}
+use Rattle.definitions.specs.declared.outcome.Outcome.{Outcome}
 use Rattle.definitions.specs.declared.document.Command.{Command}
 use Rattle.definitions.specs.declared.document.Command.TheVariants as is
 use Rattle.definitions.specs.declared.document.Ending.TheVariants as ends
@@ -33,16 +34,21 @@ story_snoc s x =
     texts : List Transition → List ℕ
     texts = flat_map (λ (e : Transition). outcomes_text e.lines)
 
-pub went_text : (line : Line) (more before : List Event) → story_text (story_of line (went line before more).events) ≡ story_text (story_of line before) ++ outcomes_text (went line before more).lines
-unfolding went story_of
-went_text line [] before = sym (append-nil (story_text (story_of line before)))
-went_text line (e ∷ more) before =
+-- the text of further events behind that of one
+pub more_text : (line : Line) (before : List Event) (e : Event) (after : List Event) (rest : List Outcome) → story_text (story_of line after) ≡ story_text (story_of line (e ∷ before)) ++ outcomes_text rest
+    → story_text (story_of line after) ≡ story_text (story_of line before) ++ outcomes_text ((effects line (story_of line before) e).lines ++ rest)
+unfolding story_of
+more_text line before e after rest h =
     let x = effects line (story_of line before) e in
-    let rest = (went line (e ∷ before) more).lines in
-    went_text line more (e ∷ before)
+    h
     ∙ (ap (λ t. t ++ outcomes_text rest) (story_snoc (story_of line before) x)
     ∙ (append_assoc (story_text (story_of line before)) (outcomes_text x.lines) (outcomes_text rest)
     ∙ ap (λ t. story_text (story_of line before) ++ t) (sym (flat_map-append outcome_text x.lines rest))))
+
+went_text : (line : Line) (more before : List Event) → story_text (story_of line (went line before more).events) ≡ story_text (story_of line before) ++ outcomes_text (went line before more).lines
+unfolding went
+went_text line [] before = sym (append-nil (story_text (story_of line before)))
+went_text line (e ∷ more) before = more_text line before e (went line (e ∷ before) more).events (went line (e ∷ before) more).lines (went_text line more (e ∷ before))
 
 pub story_more : (line : Line) (events before : List Event) → story_text (story_of line (behind_events line before events)) ≡ story_text (story_of line before) ++ lines_behind line before events
 unfolding behind_events lines_behind

@@ -4,7 +4,7 @@ use Rattle.std.specs.Prelude.{codes}
 use Rattle.definitions.specs.declared.item.Item.{Item}
 use Rattle.definitions.specs.declared.item.Item.TheVariants.{Zone}
 use Rattle.definitions.specs.declared.event.Event.{Event}
-use Rattle.definitions.specs.declared.event.Event.TheVariants.{Train, Time, Take, Deliver}
+use Rattle.definitions.specs.declared.event.Event.TheVariants.{Train, Time, Take, Deliver, Noise, Round, Lost}
 use Rattle.definitions.specs.declared.event.Kind.TheVariants.{Equipped}
 use Rattle.definitions.specs.declared.document.Command.TheVariants.{Run, Check}
 use Rattle.definitions.specs.declared.document.Ending.TheVariants as ends
@@ -14,18 +14,22 @@ use Rattle.definitions.specs.ItemText.{item_forms}
 use Rattle.definitions.specs.ItemReading.{item_at}
 use Rattle.definitions.specs.EventText.{event_forms}
 use Rattle.definitions.specs.EventFields.{has_train, event_of, field_column}
-use Rattle.text_forms.specs.Reading.{form_at, line_at, word_at, after_word, common, fields_in, fields_at, parts_at, part_at, byte_at, number_at, digits_at, groups_at}
+use Rattle.text_forms.specs.Reading.{form_at, line_at, word_at, after_word, common, fields_in, fields_at, parts_at, part_at, byte_at, number_at, digits_at, groups_at, hex_at, hex_digit_at}
+use Rattle.std.specs.Fmt.{digits}
+use Rattle.text_forms.specs.Forms.{spelled, part_text}
+use Rattle.definitions.specs.Frames.{frame_at}
+use Rattle.definitions.specs.OutcomeText.{outcome_forms, plain_text, outcome_text}
 use Rattle.definitions.specs.Numbers.{numbers_below, least}
 use Rattle.definitions.specs.Rules.{rule_of, finish_rule, builds}
-use Rattle.definitions.specs.Story.{first_told, sent, to_actor, ever}
+use Rattle.definitions.specs.Story.{first_told, sent, to_actor, messages, ever}
 use Rattle.definitions.specs.World.{trains}
 use Rattle.definitions.specs.Control.{controls, greatest_known}
 use Rattle.definitions.specs.Steps.{story_of, taken_most, takes_from}
-use Rattle.definitions.specs.Trace.{trace, went}
+use Rattle.definitions.specs.Trace.{trace, went, comes}
 use Rattle.document_laws.specs.Whole.{said_items, said_events, SayEvents, SayScript, behind_events, Admitted, IsDocument, IsDocumentWithoutScript, IsCheckable, known_after, kept_lines, story_text, whole, checked, lines_ended}
 use Rattle.document_laws.specs.Refused.{IsRefusedInScript, IsRefusedInCheck, IsRefusedAmongItems, IsUnfinished, story_ended, items_ended}
 use Rattle.document_laws.proofs.Whole.{document_gives, document_gives_nothing, checkable_gives}
-use Rattle.document_laws.proofs.Refused.{refused_in_script, refused_in_check, refused_among_items, unfinished}
+use Rattle.document_laws.proofs.Refused_in_script.{refused_in_script, refused_in_check, refused_among_items, unfinished}
 
 abbrev items : List Item
 items = Zone 1 ∷ []
@@ -91,7 +95,7 @@ delivered = codes "zone 1\n\nscript\ntrain 7 60 2 20 eq\ntime 1 7\ndeliver 1\n"
 
 -- in the history it is its take
 is_take : behind_events items [] further ≡ Take 1 0 1 ∷ Time (record { 0 = 1 }) (record { 0 = 7 }) ∷ Train (record { 0 = 7 }) 60 2 20 Equipped ∷ []
-unfolding behind_events went story_of sent to_actor taken_most takes_from
+unfolding behind_events went story_of sent to_actor taken_most takes_from ever
 is_take = refl
 
 three_said : SayEvents items [] (codes "train 7 60 2 20 eq\n" ∷ codes "time 1 7\n" ∷ codes "deliver 1\n" ∷ []) further
@@ -99,7 +103,7 @@ unfolding said_events text_of event_line_of event_forms form_at line_at word_at 
 three_said = refl
 
 is_delivered : IsDocument delivered items further
-unfolding text_lines rule_of finish_rule least builds Admitted behind_events went story_of first_told trains sent to_actor taken_most takes_from
+unfolding text_lines rule_of finish_rule least builds Admitted behind_events went story_of first_told trains sent to_actor taken_most takes_from ever
 is_delivered = record {
   says_ = say_script (codes "train 7 60 2 20 eq\n" ∷ codes "time 1 7\n" ∷ codes "deliver 1\n" ∷ []) further three_said;
   builds = refl;
@@ -121,12 +125,59 @@ no_lines = refl
 three_events : (whole items further).ending ≡ ends.Done 3
 three_events = refl
 
+-- noise, a marker and a loss: the delivery passes over what is lost
+abbrev noisy : List Event
+noisy =
+    Train (record { 0 = 7 }) 60 2 20 Equipped
+    ∷ Time (record { 0 = 1 }) (record { 0 = 7 })
+    ∷ Time (record { 0 = 1 }) (record { 0 = 7 })
+    ∷ Lost 0 1 1
+    ∷ Round 3
+    ∷ Noise 1 0 (record { items = 2 ∷ 255 ∷ [] })
+    ∷ Deliver 1
+    ∷ []
+
+abbrev noise_lines : List (List ℕ)
+noise_lines = codes "train 7 60 2 20 eq\n" ∷ codes "time 1 7\n" ∷ codes "time 1 7\n" ∷ codes "lost 0 1 1\n" ∷ codes "round 3\n" ∷ codes "noise 1 0 02ff\n" ∷ codes "deliver 1\n" ∷ []
+
+abbrev noise_heard : List ℕ
+noise_heard = codes "zone 1\n\nscript\ntrain 7 60 2 20 eq\ntime 1 7\ntime 1 7\nlost 0 1 1\nround 3\nnoise 1 0 02ff\ndeliver 1\n"
+
+takes_second : behind_events items [] noisy
+    ≡ Take 1 0 2 ∷ Noise 1 0 (record { items = 2 ∷ 255 ∷ [] }) ∷ Round 3 ∷ Lost 0 1 1 ∷ Time (record { 0 = 1 }) (record { 0 = 7 }) ∷ Time (record { 0 = 1 }) (record { 0 = 7 }) ∷ Train (record { 0 = 7 }) 60 2 20 Equipped ∷ []
+unfolding behind_events went story_of sent to_actor taken_most takes_from ever frame_at
+takes_second = refl
+
+noise_said : SayEvents items [] noise_lines noisy
+unfolding said_events text_of event_line_of event_forms form_at line_at word_at after_word common fields_in fields_at parts_at part_at byte_at number_at digits_at groups_at hex_at hex_digit_at event_of has_train
+noise_said = refl
+
+is_noisy : IsDocument noise_heard items noisy
+unfolding text_lines rule_of finish_rule least builds Admitted behind_events went story_of first_told trains sent to_actor taken_most takes_from ever frame_at
+is_noisy = record {
+  says_ = say_script noise_lines noisy noise_said;
+  builds = refl;
+  one = omega arith;
+  finished = refl;
+  kept = (refl, (refl, (refl, (refl, (refl, (refl, (refl, tt)))))));
+  few = omega arith;
+  within = omega arith;
+}
+
+noisy_gives : trace Run noise_heard ≡ whole items noisy
+noisy_gives = document_gives noise_heard items noisy is_noisy
+
+-- one outcome line: the fault of the noise
+noise_told : story_text (story_of items (behind_events items [] noisy)) ≡ codes "noise 1 version\n"
+unfolding behind_events went story_of first_told sent to_actor taken_most takes_from controls greatest_known numbers_below ever frame_at outcome_text outcome_forms plain_text spelled part_text digits
+noise_told = refl
+
 -- a train that comes on and holds no authority is refused; what follows is not read
 abbrev broken : List ℕ
 broken = codes "zone 1\n\nscript\ntrain 7 60 2 20 eq\nenter 7\nzone 1\n"
 
 is_broken : IsRefusedInScript broken items events events (ends.Premise 5 5)
-unfolding text_lines said_events text_of event_line_of event_forms form_at line_at word_at after_word common fields_in fields_at parts_at part_at byte_at number_at digits_at groups_at event_of has_train rule_of finish_rule least builds Admitted behind_events went story_of first_told trains ever
+unfolding text_lines said_events text_of event_line_of event_forms form_at line_at word_at after_word common fields_in fields_at parts_at part_at byte_at number_at digits_at groups_at event_of has_train rule_of finish_rule least builds Admitted behind_events went comes messages story_of first_told trains ever
 is_broken = record {
   before = codes "zone 1\n" ∷ codes "\n" ∷ codes "script\n" ∷ codes "train 7 60 2 20 eq\n" ∷ [];
   last = codes "enter 7\n";

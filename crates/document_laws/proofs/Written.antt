@@ -1,7 +1,7 @@
 -- What a command writes of text lines that it passes on: a check those that say something.
 use Rattle.std.proofs.Common.{◌≡◌, ℕ, List, [], ◌∷◌, ◌++◌, Bool, true, false, refl, sym, ◌∙◌, ap, append_assoc}
 use Rattle.std.specs.Prelude.{bytes_eq, codes, Option, Some, None, Result, Ok, Err}
-use Rattle.list_laws.proofs.Tests.{by_test}
+use Rattle.list_laws.proofs.By_test.{by_test}
 use Rattle.text_forms.specs.Reading.{form_at}
 use Rattle.definitions.specs.declared.event.Event.{Event}
 use Rattle.definitions.specs.declared.item.Item.{Item}

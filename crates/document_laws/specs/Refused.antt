@@ -1,5 +1,5 @@
 -- A document that is refused at a text line, or because its line does not finish.
-use Rattle.std.specs.Prelude.{◌≡◌, ℕ, ◌+◌, ◌<◌, ◌≤◌, List, [], ◌∷◌, ◌++◌, length, true, false, count_by}
+use Rattle.std.specs.Prelude.{◌≡◌, ℕ, ◌+◌, ◌<◌, ◌≤◌, List, [], ◌∷◌, ◌++◌, length, true, false, count_by, Some, None}
 use Rattle.definitions.specs.declared.item.Item.{Item}
 use Rattle.definitions.specs.declared.event.Event.{Event}
 use Rattle.definitions.specs.declared.document.ItemLine.{ItemLine}
@@ -19,17 +19,18 @@ use Rattle.definitions.specs.Track.{Line}
 use Rattle.definitions.specs.World.{trains}
 use Rattle.definitions.specs.Premises.{too_many, beyond_trains, premise_of}
 use Rattle.definitions.specs.Endings.{ending_text}
-use Rattle.definitions.specs.Trace.{Given, ended, input_limit, event_limit, second_zone, stands_for, passes_limit}
+use Rattle.definitions.specs.Trace.{Given, ended, input_limit, event_limit, second_zone, stands_for, no_room, comes}
 use Rattle.document_laws.specs.Throughout.{led_to}
 use Rattle.document_laws.specs.Whole.{SayItems, SayScript, behind_events, Admitted, known_after, story_text, lines_ended}
 
--- what refuses an event at text line n of a run: the limit on trains; else that on events; else the least premise that it
--- breaks
+-- what refuses an event at text line n of a run: the limit on trains; else the limit on events or on messages that stops what
+-- it stands for; else the least premise that it breaks
 abbrev pub EventRefused : ℕ → Line → List Event → Story → Event → Ending → Type 0
 EventRefused n line before s e ends.Trains = too_many s e ≡ true
-EventRefused n line before s e ends.Events = (too_many s e ≡ false) × (passes_limit before (stands_for line s e) ≡ true)
+EventRefused n line before s e ends.Events = (too_many s e ≡ false) × ((comes line before (stands_for line s e)).ending ≡ Some ends.Events)
+EventRefused n line before s e ends.Messages = (too_many s e ≡ false) × ((comes line before (stands_for line s e)).ending ≡ Some ends.Messages)
 EventRefused n line before s e (ends.Premise m p) =
-    (m ≡ n) × (too_many s e ≡ false) × (passes_limit before (stands_for line s e) ≡ false) × (p ≡ premise_of line s e) × (0 < p)
+    (m ≡ n) × (too_many s e ≡ false) × (no_room before s ≡ None) × (p ≡ premise_of line s e) × (0 < p)
 EventRefused n line before s e ending = ⊥
 
 -- what refuses text line n of a script that is run: an event; a form that has no meaning yet; or what is no event, or has a
@@ -79,8 +80,8 @@ abbrev pub says_last : Line → List Event → List ℕ → EventLine
 says_last line events last = event_line_of line (trains (story_of line events)) (text_of last)
 
 -- within the limits: items that make a line of at most one zone, the word, and events that keep the premises; then a text
--- line that is refused, after which nothing is read. The history is that up to there: of a delivery that passes the limit on
--- events it has the takes before.
+-- line that is refused, after which nothing is read. The history is that up to there: of a delivery that meets a limit it has
+-- the takes before.
 pub record IsRefusedInScript (bytes : List ℕ) (items : List Item) (events history : List Event) (ending : Ending) : Type 0 where
   pub before : List (List ℕ)
   pub last : List ℕ

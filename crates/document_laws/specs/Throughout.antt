@@ -28,7 +28,7 @@ pub record SafeUpTo (line : Line) (events : List Event) : Type 0 where
   pub after : (k : ℕ) → SafeHistory line (drop k events)
   pub early : clock (story_of line events) < 2 ^ 40
 
--- the history that a text line leads to after events of a script; up to the limit on events, where it meets that
+-- the history that a text line leads to after events of a script; up to the limit that it meets, if any
 abbrev pub led_to : Line → List Event → EventLine → List Event
 led_to line events (tells.Event e) = (event_comes 0 line events (story_of line events) e).went.events
 led_to line events _ = events

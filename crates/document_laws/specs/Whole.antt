@@ -142,5 +142,6 @@ refuses (ends.ScriptColumn n c) = true
 refuses (ends.Premise n p) = true
 refuses ends.Trains = true
 refuses ends.Events = true
+refuses ends.Messages = true
 refuses (ends.Unbuilt n) = true
 refuses _ = false

@@ -4,7 +4,9 @@
 ghost use Rattle.std.specs.Prelude.{◌≡◌, ℕ, List, [], false};
 ghost use Rattle.definitions.specs.declared.item.Item.{Item};
 ghost use Rattle.definitions.specs.declared.event.Event.{Event};
+ghost use Rattle.definitions.specs.declared.document.Command.{Command};
 ghost use Rattle.definitions.specs.declared.document.Command.TheVariants.{Run, Check};
+ghost use Rattle.definitions.specs.declared.document.Ending.TheVariants.{Messages};
 ghost use Rattle.definitions.specs.Trace.{trace};
 ghost use Rattle.document_laws.specs.Whole.{IsDocument, IsDocumentWithoutScript, IsCheckable, whole, checked, refuses};
 
@@ -34,4 +36,10 @@ pub fn checkable_gives_items()
 /// No text line of a document is refused: it breaks no rule and no premise, its form is built, and it passes no limit.
 pub fn never_premise()
     ensures { (bytes : List ℕ) (items : List Item) (events : List Event) → IsDocument bytes items events → refuses (trace Run bytes).ending ≡ false }
+{}
+
+/// No document, whatever its bytes are, meets the limit on messages: that on events comes first.
+#[tactic(auto, using(crate::proofs::Other_ending::never_messages))]
+pub fn never_messages()
+    ensures { (c : Command) (bytes : List ℕ) → (trace c bytes).ending ≡ Messages → ⊥ }
 {}

@@ -2,7 +2,7 @@
 use Rattle.std.proofs.Common.{◌≡◌, ℕ, max, List, [], ◌∷◌, Option, Some, None, Bool, true, false, ◌&&◌, refl, sym, ◌∙◌, ap, subst, arith, nat_le, nat_lt, nat_eq}
 use Rattle.std.proofs.lemmas.Bool.{eqb-true, and_parts}
 use Rattle.std.proofs.lemmas.Bool.Decides.{nat_tests}
-use Rattle.list_laws.proofs.Tests.{by_test}
+use Rattle.list_laws.proofs.By_test.{by_test}
 use Rattle.track_points.specs.declared.ids.DirSeg.{DirSeg}
 use Rattle.track_points.specs.Points.{Lengths}
 use Rattle.definitions.specs.declared.message.Msg.{Msg}
@@ -16,7 +16,7 @@ use Rattle.definitions.specs.Account.{Account, end_of, shrink_end, least_of, iss
 use Rattle.definitions.specs.Fold.{account, acts, heard, heard_some, counts, fronts_heard, issues_one, issues_all}
 use Rattle.definitions.specs.Longest.{counted}
 use Rattle.definitions.specs.Fronts.{possible_front, fronts_taken}
-use Rattle.event_laws.proofs.Issued.{AllIn, NoAuth}
+use Rattle.event_laws.proofs.Issued_all.{AllIn, NoAuth}
 
 pub account_next : (line : Line) (t : ℕ) (e : Transition) (s : Story)
     → account line t (e ∷ s) ≡ issues_all (seg_len line) (journey line t s) t e.issued (acts (seg_len line) t e s (journey line t s) (account line t s))

@@ -1,24 +1,26 @@
 -- What an event does: what it takes, and what it issues. A law of all events is proved of three: one that takes nothing, a take
 -- by the world, and a take by a zone.
-use Rattle.std.proofs.Common.{◌≡◌, ℕ, zero, suc, ◌-◌, List, Option, Some, None, Bool, true, false, ◌&&◌, not, refl, sym, ◌∙◌, ap, subst}
+use Rattle.std.proofs.Common.{◌≡◌, ℕ, zero, suc, ◌-◌, List, [], Option, Some, None, Result, Ok, Err, Bool, true, false, ◌&&◌, not, refl, sym, ◌∙◌, ap, subst}
 use Rattle.std.specs.Prelude.{nat_eq}
 use Rattle.std.proofs.lemmas.Option.{same_Some}
 use Rattle.std.proofs.lemmas.Bool.{and_parts, not-true}
-use Rattle.list_laws.proofs.Tests.{by_test}
+use Rattle.list_laws.proofs.By_test.{by_test}
 use Rattle.track_points.specs.declared.ids.DirSeg.{DirSeg}
 use Rattle.track_points.specs.declared.ids.TrainId.{TrainId}
 use Rattle.track_points.specs.declared.path.Path.{Path}
 use Rattle.definitions.specs.declared.event.Event.{Event}
-use Rattle.definitions.specs.declared.event.Event.TheVariants.{Entry, Enter, Ask, Report, Time, Take}
+use Rattle.definitions.specs.declared.event.Event.TheVariants.{Entry, Enter, Ask, Report, Time, Take, Noise}
 use Rattle.definitions.specs.declared.message.Msg.{Msg}
 use Rattle.definitions.specs.declared.message.Msg.TheVariants as msg
+use Rattle.definitions.specs.declared.outcome.FrameFault.{FrameFault}
 use Rattle.definitions.specs.Track.{Line, zone_of, is_actor}
+use Rattle.definitions.specs.Frames.{frame_at}
 use Rattle.definitions.specs.Story.{Transition, Story}
 use Rattle.definitions.specs.World.{Facts, facts_of, clock, entry_authority, is_auth}
 use Rattle.definitions.specs.Premises.{built}
 use Rattle.definitions.specs.Control.{message_time, took_time}
-use Rattle.definitions.specs.Steps.{Effect, nothing, sender_of, entering, requesting, telling, reporting, world_takes, zone_step, transition, taking, message, effects}
-use Rattle.event_laws.proofs.Issued.{AllIn, AllIssued, issued_all, AtMostOne, says_nothing, says_one, each_issued, NoAuth}
+use Rattle.definitions.specs.Steps.{Effect, nothing, sender_of, entering, requesting, telling, reporting, hearing_noise, world_takes, zone_step, transition, taking, message, effects}
+use Rattle.event_laws.proofs.Issued_all.{AllIn, AllIssued, issued_all, AtMostOne, says_nothing, says_one, each_issued, NoAuth}
 use Rattle.event_laws.proofs.Admitted.{Admitted}
 use Rattle.event_laws.proofs.Zone_issues.{train_of, zone_each, Replies, replies, world_issues, world_none}
 
@@ -53,6 +55,11 @@ request_issues : (s : Story) (e : Event) (t : TrainId) (step : DirSeg) (zone : �
 request_issues s e t step zone None = says_nothing refl
 request_issues s e t step zone (Some f) = says_one _ refl (record { time = refl; unauthorized = λ t. refl; reported = λ h. absurd cc })
 
+-- noise issues nothing
+pub noise_issues : (to : ℕ) (r : Result Msg FrameFault) → (hearing_noise to r).issued ≡ []
+noise_issues to (Ok m) = refl
+noise_issues to (Err fault) = refl
+
 -- The three.
 
 -- the event takes a message that was sent
@@ -81,6 +88,7 @@ by_does line s (Enter t) P own world zone = own 0 (entering (clock s) t (sender_
 by_does line s (Ask t z steps to) P own world zone = own 0 (telling z.0 (msg.Ask t (clock s) steps to)) (says_one _ refl (record { time = refl; unauthorized = λ t. refl; reported = λ h. absurd cc }))
 by_does line s (Report t z step offset whole) P own world zone = own 0 (telling z.0 (reporting line s t offset whole)) (says_one _ refl (record { time = refl; unauthorized = λ t. refl; reported = λ h. refl }))
 by_does line s (Time z t) P own world zone = own 0 (telling z.0 (msg.Time (clock s) t)) (says_one _ refl (record { time = refl; unauthorized = λ t. refl; reported = λ h. absurd cc }))
+by_does line s (Noise to from bytes) P own world zone = own 0 (hearing_noise to (frame_at bytes.items)) (says_nothing (noise_issues to (frame_at bytes.items)))
 by_does line s _ P own world zone = own 0 nothing (says_nothing refl)
 
 -- The transition of an event names that event.

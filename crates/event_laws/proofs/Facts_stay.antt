@@ -4,7 +4,7 @@ use Rattle.std.specs.Prelude.{is_some}
 use Rattle.track_points.specs.declared.ids.DirSeg.{DirSeg}
 use Rattle.definitions.specs.Story.{Transition, Story}
 use Rattle.definitions.specs.World.{Facts, facts_or, facts_in, facts_of, is_declared, long_of, error_of, speed_of, entry_in, first_entry, enters, entered}
-use Rattle.event_laws.proofs.Notions.{told_stays, ever_stays}
+use Rattle.event_laws.proofs.Entered_same.{told_stays, ever_stays}
 
 pub facts_stay : (t : ℕ) (e : Transition) (s : Story) → is_declared t s ≡ true → facts_of t (e ∷ s) ≡ facts_of t s
 facts_stay t e s h = stays (facts_of t s) refl h

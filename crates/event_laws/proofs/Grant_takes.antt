@@ -3,7 +3,7 @@ use Rattle.std.proofs.Common.{◌≡◌, ℕ, suc, Option, Some, Bool, true, fal
 use Rattle.std.proofs.lemmas.Bool.{eqb-true, and_parts}
 use Rattle.std.specs.Prelude.{nat_eq}
 use Rattle.std.specs.List.{list_any}
-use Rattle.list_laws.proofs.Tests.{by_test}
+use Rattle.list_laws.proofs.By_test.{by_test}
 use Rattle.track_points.specs.declared.ids.DirSeg.{DirSeg}
 use Rattle.track_points.specs.declared.ids.TrainId.{TrainId}
 use Rattle.definitions.specs.declared.event.Event.{Event}
@@ -17,7 +17,7 @@ use Rattle.definitions.specs.Control.{grants_entry, asks_entry, controls, knows,
 use Rattle.definitions.specs.Authority.{holder_of}
 use Rattle.definitions.specs.Steps.{world_takes, zone_entry, zone_takes, zone_step, transition, effects}
 use Rattle.event_laws.proofs.Controls_same.{controls_knows}
-use Rattle.event_laws.proofs.Issued.{in_false_all, NoAuth}
+use Rattle.event_laws.proofs.Issued_all.{in_false_all, NoAuth}
 use Rattle.event_laws.proofs.Zone_issues.{world_none}
 use Rattle.event_laws.proofs.By_does.{by_does}
 

@@ -1,12 +1,12 @@
 -- The last number issued of a train's authorities: a transition that issues none leaves it, and none goes back.
 use Rattle.std.proofs.Common.{◌≡◌, ℕ, ◌≤◌, List, [], ◌∷◌, true, false, refl, arith}
 use Rattle.std.specs.Prelude.{nat_eq}
-use Rattle.list_laws.proofs.Tests.{by_test}
+use Rattle.list_laws.proofs.By_test.{by_test}
 use Rattle.definitions.specs.declared.message.Msg.{Msg}
 use Rattle.definitions.specs.declared.message.Msg.TheVariants as msg
 use Rattle.definitions.specs.Story.{Transition, Story, greatest_in, greatest_issued}
 use Rattle.definitions.specs.World.{is_auth, auth_number}
-use Rattle.event_laws.proofs.Issued.{AllIn, AllIssued, NoAuth}
+use Rattle.event_laws.proofs.Issued_all.{AllIn, AllIssued, NoAuth}
 
 pub number_none : (t : ℕ) (m : Msg) → is_auth t m ≡ false → auth_number t m ≡ 0
 number_none t (msg.Auth u number mark path) h = rw h refl

@@ -1,7 +1,7 @@
-pub mod Notions
+pub mod Entered_same
 pub mod Controls_same
 pub mod Known_more
-pub mod Issued
+pub mod Issued_all
 pub mod Admitted
 pub mod Facts_stay
 pub mod Still_world
@@ -11,3 +11,7 @@ pub mod Last_quiet
 pub mod Zone_issues
 pub mod By_does
 pub mod Grant_takes
+pub mod Messages_most
+pub mod Comes_kept
+pub mod Delivery_admitted
+pub mod Event_kept

@@ -3,12 +3,12 @@ use Rattle.std.proofs.Common.{◌≡◌, ℕ, ◌≤◌, max, List, ◌∷◌, �
 use Rattle.std.proofs.lemmas.Bool.Decides.{nat_tests}
 use Rattle.std.specs.Prelude.{nat_eq, nat_lt, is_some}
 use Rattle.std.proofs.lemmas.Bool.{or_parts}
-use Rattle.list_laws.proofs.Tests.{none_of, by_test}
+use Rattle.list_laws.proofs.By_test.{none_of, by_test}
 use Rattle.definitions.specs.declared.message.Msg.{Msg}
 use Rattle.definitions.specs.Track.{Line}
 use Rattle.definitions.specs.Story.{Transition, Story, or_else, to_actor, sent, first_told, world_took}
 use Rattle.definitions.specs.World.{elapsed, clock, facts_in, facts_of, is_declared, with_train, trains, entry_in, first_entry, enters, entered, moved, head, goes_on, journey, taken_number, taken_path, taken_entry, entry_authority, last_number, limit_held}
-use Rattle.event_laws.proofs.Notions.{same_told, entered_same}
+use Rattle.event_laws.proofs.Entered_same.{same_told, entered_same}
 
 -- an entry that neither declares, lets on nor moves a train, nor asks for its entry, nor takes an authority of it
 pub record StillWorld (t : ℕ) (x : Transition) : Type 0 where

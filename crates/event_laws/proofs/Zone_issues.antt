@@ -2,7 +2,7 @@
 -- by the world nothing, or one answer to the sender.
 use Rattle.std.proofs.Common.{◌≡◌, ℕ, ◌+◌, ◌≤◌, List, [], ◌∷◌, Option, Some, None, Bool, true, false, refl, sym, subst, arith}
 use Rattle.std.specs.Prelude.{nat_eq, nat_lt}
-use Rattle.list_laws.proofs.Tests.{by_test}
+use Rattle.list_laws.proofs.By_test.{by_test}
 use Rattle.track_points.specs.declared.ids.DirSeg.{DirSeg}
 use Rattle.track_points.specs.declared.ids.TrainId.{TrainId}
 use Rattle.track_points.specs.declared.path.Path.{Path}
@@ -19,7 +19,7 @@ use Rattle.definitions.specs.Fronts.{is_used, possible_front}
 use Rattle.definitions.specs.Authority.{way, holder_of}
 use Rattle.definitions.specs.Limit.{Reach, asked_way, limit}
 use Rattle.definitions.specs.Steps.{entry_path, path_to, zone_entry, zone_ask, zone_report, zone_time, zone_takes, taking_auth, world_takes}
-use Rattle.event_laws.proofs.Issued.{AllIn, AtMostOne, says_nothing, says_one, each_issued, NoAuth}
+use Rattle.event_laws.proofs.Issued_all.{AllIn, AtMostOne, says_nothing, says_one, each_issued, NoAuth}
 
 -- A zone.
 

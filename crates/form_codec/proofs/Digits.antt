@@ -11,7 +11,7 @@ use Rattle.std.proofs.lemmas.Bool.{and_from}
 use Rattle.text_forms.specs.Forms.{number_limit}
 use Rattle.text_forms.specs.Reading.{Read, digits_at, more_digits, number_at}
 use Rattle.form_codec.specs.Stuck.{Live, Stuck}
-use Rattle.form_codec.proofs.Stuck_laws.{stuck_same}
+use Rattle.form_codec.proofs.Stuck_same.{stuck_same}
 
 abbrev pub read_on : ℕ → List ℕ → ℕ
 read_on n [] = n

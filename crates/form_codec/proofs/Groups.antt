@@ -8,10 +8,10 @@ use Rattle.text_forms.specs.Forms.{part_text, spelled, Fit, times, Form}
 use Rattle.text_forms.specs.Reading.{Read, ◌>>=◌, parts_at, groups_at, fields_at}
 use Rattle.text_forms.specs.Tables.{starts_plain, plain_parts, clear, is_filled, is_clear}
 use Rattle.form_codec.specs.Stuck.{Live, Stuck}
-use Rattle.form_codec.proofs.Stuck_laws.{stuck_same}
+use Rattle.form_codec.proofs.Stuck_same.{stuck_same}
 use Rattle.form_codec.proofs.Digits.{Bare, Plain, first_true, second_true}
-use Rattle.form_codec.proofs.One_part.{bind_ok, bind_err}
-use Rattle.form_codec.proofs.Fields.{Line, line_live, line_plain, nonempty, parts_takes, parts_on, parts_no, spelled_bare, parts_again}
+use Rattle.form_codec.proofs.Then_live.{bind_ok, bind_err}
+use Rattle.form_codec.proofs.Parts_takes.{Line, line_live, line_plain, nonempty, parts_takes, parts_on, parts_no, spelled_bare, parts_again}
 
 -- a group so many times, to the end of the text
 abbrev pub Groups : List Part → ℕ → ℕ → List ℕ → Type 0

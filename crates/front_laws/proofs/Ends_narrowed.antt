@@ -2,9 +2,9 @@
 use Rattle.std.proofs.Common.{◌≡◌, ℕ, ◌+◌, ◌≤◌, ◌∷◌, Option, Some, Bool, true, false, ◌&&◌, sym, ◌∙◌, ap, arith}
 use Rattle.std.proofs.lemmas.Bool.Decides.{nat_tests}
 use Rattle.std.specs.Prelude.{ℤ, nat_eq, nat_le}
-use Rattle.list_laws.proofs.Tests.{eq_by_order}
+use Rattle.list_laws.proofs.By_test.{eq_by_order}
 use Rattle.track_points.specs.declared.ids.TrainId.{TrainId}
-use Rattle.envelope.proofs.Ranges.{IsRange}
+use Rattle.envelope.proofs.Range_hull.{IsRange}
 use Rattle.definitions.specs.declared.message.Msg.{Msg}
 use Rattle.definitions.specs.declared.message.Msg.TheVariants as msg
 use Rattle.definitions.specs.Track.{Line}

@@ -5,7 +5,7 @@ use Rattle.track_points.specs.declared.ids.TrainId.{TrainId}
 use Rattle.track_points.specs.Points.{total}
 use Rattle.envelope.specs.declared.fronts.Fronts.{Fronts}
 use Rattle.envelope.specs.Fronts.{farthest_move}
-use Rattle.envelope.proofs.Ranges.{IsRange}
+use Rattle.envelope.proofs.Range_hull.{IsRange}
 use Rattle.definitions.specs.declared.message.Msg.{Msg}
 use Rattle.definitions.specs.declared.message.Msg.TheVariants as msg
 use Rattle.definitions.specs.Track.{Line, seg_len}
@@ -19,7 +19,7 @@ use Rattle.envelope.specs.Ends.{least_left, greatest_left, narrowed}
 use Rattle.invariant_laws.proofs.Invariant.{FrontsAre}
 use Rattle.std.specs.Int.Signed.{le_z}
 use Rattle.std.specs.Prelude.{nat_eq}
-use Rattle.list_laws.proofs.Tests.{by_test}
+use Rattle.list_laws.proofs.By_test.{by_test}
 use Rattle.definitions.specs.World.{journey}
 use Rattle.definitions.specs.Account.{Account, takes_shrink}
 use Rattle.definitions.specs.Fold.{account, by_answer}

@@ -5,11 +5,11 @@ use Rattle.std.proofs.lemmas.Int.{ints}
 use Rattle.std.specs.Prelude.{ℤ, pos, ◌+ℤ◌, nat_eq, nat_le, nat_lt}
 use Rattle.std.specs.Int.Signed.{le_z}
 use Rattle.std.proofs.lemmas.Bool.{and_parts}
-use Rattle.list_laws.proofs.Tests.{by_test}
+use Rattle.list_laws.proofs.By_test.{by_test}
 use Rattle.track_points.specs.declared.ids.TrainId.{TrainId}
 use Rattle.track_points.specs.Points.{total}
 use Rattle.envelope.specs.Fronts.{farthest_move, kept}
-use Rattle.envelope.proofs.Ranges.{IsRange}
+use Rattle.envelope.proofs.Range_hull.{IsRange}
 use Rattle.definitions.specs.Farther.{on_way}
 use Rattle.definitions.specs.declared.event.Event.{Event}
 use Rattle.definitions.specs.declared.message.Msg.{Msg}

@@ -4,9 +4,9 @@ use Rattle.std.proofs.lemmas.Int.{ints}
 use Rattle.std.specs.Prelude.{ℤ, pos, ◌+ℤ◌, ◌-ℤ◌, nat_abs}
 use Rattle.std.specs.Int.{int_min}
 use Rattle.std.specs.Int.Signed.{le_z, lt_z}
-use Rattle.list_laws.proofs.Tests.{by_test}
+use Rattle.list_laws.proofs.By_test.{by_test}
 use Rattle.envelope.specs.declared.fronts.Fronts.{Fronts}
-use Rattle.envelope.proofs.Rules.{are_ends}
+use Rattle.envelope.proofs.Kept_hull.{are_ends}
 use Rattle.envelope.specs.Ends.{least_left, greatest_left, narrowed}
 
 -- the fronts that a report leaves, by its estimate

@@ -5,13 +5,13 @@ use Rattle.std.proofs.lemmas.Int.{ints}
 use Rattle.std.specs.Prelude.{ℤ, pos, ◌+ℤ◌, nat_abs}
 use Rattle.std.specs.Int.Signed.{le_z, lt_z}
 use Rattle.std.proofs.lemmas.Bool.{and_parts}
-use Rattle.list_laws.proofs.Tests.{by_test}
+use Rattle.list_laws.proofs.By_test.{by_test}
 use Rattle.track_points.specs.Points.{some_below}
-use Rattle.track_points.proofs.Some.{some_found}
+use Rattle.track_points.proofs.Some_found.{some_found}
 use Rattle.envelope.specs.declared.fronts.Fronts.{Fronts}
 use Rattle.envelope.specs.Fronts.{kept}
-use Rattle.envelope.proofs.Ranges.{IsRange}
-use Rattle.envelope.proofs.Rules.{are_ends}
+use Rattle.envelope.proofs.Range_hull.{IsRange}
+use Rattle.envelope.proofs.Kept_hull.{are_ends}
 use Rattle.envelope.specs.Ends.{least_left, greatest_left, narrowed}
 use Rattle.definitions.specs.Account.{ruled}
 use Rattle.front_laws.proofs.Narrowed_shifted.{least_above}

@@ -9,7 +9,7 @@ use Rattle.std.proofs.lemmas.Bool.Decides.{nat_tests}
 use Rattle.std.proofs.lemmas.Int.{ints}
 use Rattle.std.specs.Prelude.{ℤ, pos, ◌+ℤ◌}
 use Rattle.std.specs.Int.Signed.{le_z}
-use Rattle.list_laws.proofs.Tests.{by_test}
+use Rattle.list_laws.proofs.By_test.{by_test}
 use Rattle.track_points.specs.declared.ids.DirSeg.{DirSeg}
 use Rattle.track_points.specs.declared.ids.TrainId.{TrainId}
 use Rattle.track_points.specs.declared.ids.ZoneId.{ZoneId}
@@ -25,7 +25,7 @@ use Rattle.definitions.specs.Premises.{head_offset, off_by}
 use Rattle.definitions.specs.Control.{message_time}
 use Rattle.definitions.specs.Safe.{IsLineOfOneZone}
 use Rattle.definitions.specs.Steps.{effects}
-use Rattle.event_laws.proofs.Issued.{AllIn, AllIssued, all_weaker, in_all_weaker, all_both}
+use Rattle.event_laws.proofs.Issued_all.{AllIn, AllIssued, all_weaker, in_all_weaker, all_both}
 use Rattle.event_laws.proofs.Admitted.{Admitted}
 use Rattle.event_laws.proofs.Moment_most.{moment_most}
 use Rattle.event_laws.proofs.Facts_stay.{error_stays, entered_stays}

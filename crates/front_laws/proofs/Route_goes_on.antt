@@ -3,7 +3,7 @@
 use Rattle.std.proofs.Common.{◌≡◌, ℕ, ◌≤◌, List, [], ◌∷◌, length, Option, Some, None, true, false, refl, sym, ◌∙◌, ap, subst, arith}
 use Rattle.std.proofs.lemmas.Bool.Decides.{nat_tests}
 use Rattle.std.specs.Prelude.{nat_eq, nat_lt}
-use Rattle.list_laws.proofs.Tests.{by_test}
+use Rattle.list_laws.proofs.By_test.{by_test}
 use Rattle.track_points.specs.declared.ids.DirSeg.{DirSeg}
 use Rattle.track_points.specs.Points.{Lengths, steps_to}
 use Rattle.definitions.specs.declared.message.Msg.{Msg}
@@ -18,7 +18,7 @@ use Rattle.definitions.specs.Fold.{account, issues_one, issues_all}
 use Rattle.definitions.specs.Longest.{longest_end, longest_route}
 use Rattle.definitions.specs.Zones.{zone_id}
 use Rattle.motion_laws.proofs.Motion.{Motion}
-use Rattle.event_laws.proofs.Issued.{AllIn, in_all_weaker, AuthHas, auth_without, NoAuth}
+use Rattle.event_laws.proofs.Issued_all.{AllIn, in_all_weaker, AuthHas, auth_without, NoAuth}
 use Rattle.invariant_laws.proofs.Invariant.{end_read, AuthorityIs, SomeIs, ControlIs, Authorized}
 use Rattle.invariant_laws.proofs.One_route.{newest_end, newest_route}
 use Rattle.invariant_laws.proofs.First_steps.{FirstSteps, end_same, route_same, read_same, controlled_first}

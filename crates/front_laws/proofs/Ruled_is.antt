@@ -3,13 +3,13 @@ use Rattle.std.proofs.Common.{◌≡◌, ℕ, zero, suc, ◌+◌, ◌<◌, ◌�
 use Rattle.std.proofs.Math.Path.{fun_ext}
 use Rattle.std.proofs.lemmas.Bool.Decides.{nat_tests}
 use Rattle.std.proofs.lemmas.Bool.{and_parts}
-use Rattle.list_laws.proofs.Tests.{by_test}
+use Rattle.list_laws.proofs.By_test.{by_test}
 use Rattle.track_points.specs.Points.{some_below}
-use Rattle.track_points.proofs.Some.{some_at, some_found}
+use Rattle.track_points.proofs.Some_found.{some_at, some_found}
 use Rattle.envelope.specs.declared.fronts.Fronts.{Fronts}
 use Rattle.envelope.specs.Fronts.{is_front, grown}
-use Rattle.envelope.proofs.Ranges.{IsRange}
-use Rattle.envelope.proofs.Rules.{grown_range}
+use Rattle.envelope.proofs.Range_hull.{IsRange}
+use Rattle.envelope.proofs.Kept_hull.{grown_range}
 use Rattle.definitions.specs.Numbers.{first, last}
 use Rattle.definitions.specs.Farther.{kept_or_all}
 use Rattle.way_laws.proofs.First_is.{first_is, first_only, first_at_most}

@@ -2,7 +2,7 @@
 use Rattle.std.proofs.Common.{◌≡◌, ℕ, ◌<◌, ◌≤◌, List, [], ◌∷◌, Option, Some, None, Bool, true, false, ◌&&◌, refl, ◌∙◌, ap, arith, if◌then◌else◌}
 use Rattle.std.proofs.lemmas.Bool.Decides.{nat_tests}
 use Rattle.std.specs.Prelude.{nat_eq, nat_le, nat_lt}
-use Rattle.list_laws.proofs.Tests.{by_test}
+use Rattle.list_laws.proofs.By_test.{by_test}
 use Rattle.track_points.specs.declared.ids.DirSeg.{DirSeg}
 use Rattle.track_points.specs.declared.ids.TrainId.{TrainId}
 use Rattle.track_points.specs.Points.{Lengths}
@@ -15,7 +15,7 @@ use Rattle.definitions.specs.Control.{grants_entry, controls, now_with, last_iss
 use Rattle.definitions.specs.Account.{Account, end_of, least_of, issues, answered, passed, with_fronts, with_at}
 use Rattle.definitions.specs.Fold.{account, acts, heard, heard_some, counts, fronts_heard, issues_all}
 use Rattle.definitions.specs.Longest.{counted}
-use Rattle.event_laws.proofs.Issued.{NoAuth}
+use Rattle.event_laws.proofs.Issued_all.{NoAuth}
 use Rattle.event_laws.proofs.Account_next.{account_next, all_numbered, based_same, counted_heard, issued_is, all_quiet}
 use Rattle.front_laws.proofs.Fronts_numbers.{takes_by}
 use Rattle.front_laws.proofs.Fronts_step.{takes_some}

@@ -1,7 +1,7 @@
 -- The journey of a controlled train has the steps before its way: the least rear is behind the train.
 use Rattle.std.proofs.Common.{◌≡◌, ℕ, ◌+◌, ◌-◌, ◌≤◌, List, [], ◌∷◌, take, true, refl, sym, ◌∙◌, ap, arith}
 use Rattle.std.proofs.lemmas.Bool.{and_parts}
-use Rattle.list_laws.proofs.Tests.{by_test}
+use Rattle.list_laws.proofs.By_test.{by_test}
 use Rattle.track_points.specs.declared.ids.DirSeg.{DirSeg}
 use Rattle.track_points.specs.Points.{Lengths}
 use Rattle.definitions.specs.Track.{Line, seg_len}

@@ -19,7 +19,7 @@ use Rattle.definitions.specs.Longest.{counted, longest, longest_end, longest_rou
 use Rattle.definitions.specs.Fronts.{possible_front, least_rear}
 use Rattle.definitions.specs.Steps.{entry_path}
 use Rattle.definitions.specs.Zones.{zone_id}
-use Rattle.event_laws.proofs.Issued.{AllIssued}
+use Rattle.event_laws.proofs.Issued_all.{AllIssued}
 use Rattle.motion_laws.proofs.Motion.{place, place_at, Motion}
 
 -- where the step of a mark begins on the journey

@@ -6,7 +6,7 @@ use Rattle.std.proofs.lemmas.List.Folds.{list_any-append}
 use Rattle.std.proofs.lemmas.List.Sums.{sum_by-cons}
 use Rattle.std.specs.Prelude.{nat_eq, count_by, cond}
 use Rattle.std.specs.List.{list_any}
-use Rattle.list_laws.proofs.Tests.{by_test}
+use Rattle.list_laws.proofs.By_test.{by_test}
 use Rattle.definitions.specs.declared.item.Item.{Item}
 use Rattle.definitions.specs.declared.item.Item.TheVariants.{Zone, Segment, Joint, Portal, Buffer, Silent}
 use Rattle.definitions.specs.Track.{Line, is_zone, has_zone, has_segment, zone_of, is_actor}
@@ -14,7 +14,7 @@ use Rattle.definitions.specs.Rules.{rule_of, is_any_zone, builds}
 use Rattle.definitions.specs.Safe.{IsLineOfOneZone}
 use Rattle.definitions.specs.Zones.{zone_id}
 use Rattle.definitions.proofs.Unbroken.{unbroken}
-use Rattle.way_laws.proofs.Lines.{builds_step, line_builds}
+use Rattle.way_laws.proofs.Line_builds.{builds_step, line_builds}
 
 zone_counts : (y : ℕ) (line : Line) → count_by is_any_zone (Zone y ∷ line) ≡ 1 + count_by is_any_zone line
 zone_counts y line = sum_by-cons (λ (x : Item). cond (is_any_zone x) 1 0) (Zone y) line

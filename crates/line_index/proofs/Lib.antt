@@ -1,4 +1,4 @@
-pub mod Items
-mod Noting
-mod Slots
-pub mod Uses
+pub mod Count_more
+mod Tells_more
+mod All_same
+pub mod Used_in

@@ -138,7 +138,7 @@ impl LineIndex {
     }
 
     /// Whether an item uses the end.
-    #[tactic(auto, using(crate::proofs::Uses::used_is))]
+    #[tactic(auto, using(crate::proofs::Used_in::used_is))]
     pub fn is_used(&self, e: End) -> bool
         ensures { result ≡ list_any (uses e) self.now }
     {

@@ -1,4 +1,4 @@
-pub mod Valid
-pub mod Following
-mod Once
-mod Ordering
+pub mod Segment_ok
+pub mod Next_after
+mod Follows_is
+mod Order_yes

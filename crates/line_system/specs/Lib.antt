@@ -1,3 +1,5 @@
+pub mod Frames
+pub mod Losses
 pub mod State
 pub mod History
 pub mod Kept

@@ -1,7 +1,7 @@
 -- The program's state as the plain state, and which messages were taken.
-use Rattle.std.specs.Prelude.{ℕ, zero, suc, ◌+◌, ◌-◌, ◌≤◌, List, [], ◌++◌, length, if◌then◌else◌, nat_eq, max, Option, Some, None, slice_get, vec_len, vec_capacity, ⊤}
+use Rattle.std.specs.Prelude.{ℕ, zero, suc, ◌+◌, ◌-◌, ◌≤◌, ◌≡◌, Bool, false, List, [], ◌++◌, length, if◌then◌else◌, nat_eq, max, Option, Some, None, slice_get, ⊤}
 use Rattle.definitions.specs.declared.event.Event.{Event}
-use Rattle.definitions.specs.declared.event.Event.TheVariants.{Take}
+use Rattle.definitions.specs.declared.event.Event.TheVariants.{Take, Lost}
 use Rattle.definitions.specs.declared.message.Msg.{Msg}
 use Rattle.definitions.specs.Track.{Line}
 use Rattle.definitions.specs.Story.{to_actor}
@@ -10,6 +10,8 @@ use Rattle.plain_state.specs.World.{PlainWorld, world_take_effect, world_take_ne
 use Rattle.plain_state.specs.Zone.{PlainZone, zone_take_effect, zone_take_next}
 use Rattle.plain_state.specs.Plain.{Plain}
 use Rattle.zone_state.specs.Zone.{InRange}
+use Rattle.line_system.specs.Losses.{lost_at, marked}
+use Rattle.line_system.specs.Frames.{Linked}
 use Rattle.line_system.specs.declared.state.State.{State}
 
 -- what the program keeps of a line of one zone
@@ -20,7 +22,7 @@ pub record Parts : Type 0 where
   pub to_world : List Msg
 
 abbrev pub parts : State → Parts
-parts s = record { world = s.world; zone = s.zone.plain; to_zone = s.to_zone.items; to_world = s.to_world.items }
+parts s = record { world = s.world; zone = s.zone.plain; to_zone = s.to_zone.messages; to_world = s.to_world.messages }
 
 -- the link from an actor to another, by those from the world to the zone of this number and back
 abbrev pub link_between : ℕ → List Msg → List Msg → ℕ → ℕ → List Msg
@@ -38,8 +40,8 @@ message_of k to from number = slice_get (links_of k from to) (number - 1)
 
 -- room on the links for the messages of one step
 pub record HasRoom (s : State) : Type 0 where
-  pub to_zone : vec_len s.to_zone + 1100 ≤ vec_capacity s.to_zone
-  pub to_world : vec_len s.to_world + 1100 ≤ vec_capacity s.to_world
+  pub to_zone : 1100 ≤ s.to_zone.room
+  pub to_world : 1100 ≤ s.to_world.room
 
 -- the plain state that this is: its one zone stands for each zone of the line
 abbrev pub plain_of : Parts → Plain
@@ -64,26 +66,56 @@ abbrev pub parts_next : Line → Parts → Event → Parts
 parts_next line k (Take to from number) = parts_taken line k to from (slice_get (links_of k from to) (number - 1))
 parts_next line k e = world_moved k (world_event_next line k.world e) (world_event_effect line k.world e)
 
--- the greatest ordinals that the zone and the world took
-pub record Taken : Type 0 where
+-- what is kept of the messages beside them: the greatest ordinals that the zone and the world took, which are named lost, and
+-- how many went out
+pub record Tally : Type 0 where
   pub by_zone : ℕ
   pub by_world : ℕ
+  pub lost_to_zone : List Bool
+  pub lost_to_world : List Bool
+  pub messages : ℕ
 
-abbrev pub taken : State → Taken
-taken s = record { by_zone = s.taken_by_zone; by_world = s.taken_by_world }
+abbrev pub tally : State → Tally
+tally s = record {
+  by_zone = s.taken_by_zone;
+  by_world = s.taken_by_world;
+  lost_to_zone = s.lost_to_zone;
+  lost_to_world = s.lost_to_world;
+  messages = s.messages;
+}
 
-abbrev pub taken_start : Taken
-taken_start = record { by_zone = 0; by_world = 0 }
+pub record IsStart (t : Tally) : Type 0 where
+  pub by_zone : t.by_zone ≡ 0
+  pub by_world : t.by_world ≡ 0
+  pub size_zone : length t.lost_to_zone ≡ 200001
+  pub size_world : length t.lost_to_world ≡ 200001
+  pub lost_to_zone : (number : ℕ) → lost_at t.lost_to_zone number ≡ false
+  pub lost_to_world : (number : ℕ) → lost_at t.lost_to_world number ≡ false
+  pub messages : t.messages ≡ 0
 
-abbrev pub taken_with : ℕ → ℕ → Taken → Taken
+abbrev pub taken_with : ℕ → ℕ → Tally → Tally
 taken_with to number t =
     if nat_eq to 0
-    then record { by_zone = t.by_zone; by_world = max number t.by_world }
-    else record { by_zone = max number t.by_zone; by_world = t.by_world }
+    then record t { by_world = max number t.by_world }
+    else record t { by_zone = max number t.by_zone }
 
-abbrev pub taken_behind : Event → Taken → Taken
-taken_behind (Take to from number) t = taken_with to number t
-taken_behind _ t = t
+abbrev pub lost_with : ℕ → ℕ → Tally → Tally
+lost_with to number t =
+    if nat_eq to 0
+    then record t { lost_to_world = marked number t.lost_to_world }
+    else record t { lost_to_zone = marked number t.lost_to_zone }
+
+-- which messages to an actor are lost
+abbrev pub lost_to : ℕ → Tally → ℕ → Bool
+lost_to to t number = if nat_eq to 0 then lost_at t.lost_to_world number else lost_at t.lost_to_zone number
+
+abbrev pub tally_behind : Event → Tally → Tally
+tally_behind (Take to from number) t = taken_with to number t
+tally_behind (Lost from to number) t = lost_with to number t
+tally_behind _ t = t
+
+abbrev pub counted : ℕ → Tally → Tally
+counted more t = record t { messages = t.messages + more }
 
 abbrev pub TakenInRange : Option Msg → Type 0
 TakenInRange (Some m) = InRange m
@@ -95,5 +127,10 @@ EventInRange p (Take to from number) = TakenInRange (slice_get (p.links from to)
 EventInRange p _ = ⊤
 
 -- the sender of the messages to an actor, the greatest ordinal of them that it took, and how many were sent
-abbrev pub due_of : Parts → Taken → ℕ → ℕ × ℕ × ℕ
+abbrev pub due_of : Parts → Tally → ℕ → ℕ × ℕ × ℕ
 due_of k t to = if nat_eq to 0 then (k.zone.id, t.by_world, length k.to_world) else (0, t.by_zone, length k.to_zone)
+
+-- what went out on a link, if it is one of the line
+abbrev pub on_link : Option Linked → List Msg
+on_link None = []
+on_link (Some link) = link.messages

@@ -9,7 +9,7 @@ use Rattle.definitions.specs.Steps.{story_of}
 use Rattle.definitions.specs.Trace.{Came, event_comes}
 use Rattle.line_system.specs.History.{History}
 use Rattle.line_system.specs.declared.system.Answer.{Answer}
-use Rattle.line_system.specs.declared.system.Answer.TheVariants.{Unbuilt, TooMany, Full, Premise, Goes}
+use Rattle.line_system.specs.declared.system.Answer.TheVariants.{Unbuilt, TooMany, Events, Messages, Premise, Goes}
 
 -- what an event leads to that text line n tells
 abbrev pub comes : ℕ → History → Event → Came
@@ -19,7 +19,8 @@ comes n h e = event_comes n h.line h.events (story_of h.line h.events) e
 abbrev pub ending_at : ℕ → Answer → Option Ending
 ending_at n Unbuilt = Some (ends.Unbuilt n)
 ending_at n TooMany = Some ends.Trains
-ending_at n Full = Some ends.Events
+ending_at n Events = Some ends.Events
+ending_at n Messages = Some ends.Messages
 ending_at n (Premise p) = Some (ends.Premise n p)
 ending_at n Goes = None
 

@@ -1,17 +1,21 @@
 //! The state that a script leaves: the world, the zone, and the messages that went out on the links between them.
-ghost use Rattle.std.specs.Prelude.{◌≡◌, ◌<◌, ◌≤◌, ◌+◌, ◌++◌, ◌-◌, ◌&&◌, [], true, not, max, length, nat_eq, nat_lt, nat_le, is_some, slice_get, vec_len, vec_capacity, IfOk, OnOk};
+ghost use Rattle.std.specs.Prelude.{◌≡◌, ◌<◌, ◌≤◌, ◌+◌, ◌++◌, ◌-◌, ◌&&◌, ◌-ℤ◌, pos, [], true, not, max, length, nat_eq, nat_lt, nat_le, is_some, slice_get, Some, IfOk, OnOk};
 ghost use Rattle.std.specs.List.{list_all};
+ghost use Rattle.std.specs.Int.Signed.{le_z};
+ghost use Rattle.std.specs.Option.{option_copied};
 ghost use Rattle.definitions.specs.Track.{ranged, is_actor};
 ghost use Rattle.definitions.specs.Premises.{on_line, ascending, is_equipped};
-ghost use Rattle.definitions.specs.Story.{to_actor};
 ghost use Rattle.definitions.specs.Steps.{nothing};
 ghost use Rattle.plain_state.specs.World.{find_train, world_event_effect, world_event_next};
 ghost use Rattle.plain_state.specs.Plain.{world_start, zone_start, taken_effect, plain_effect};
 ghost use Rattle.plain_state.specs.Admits.{plain_built, plain_too_many, plain_takes, plain_premise, is_known, world_premise};
 ghost use Rattle.world_sim.specs.World.{StepFits, IsBuilt, IsWorldOn};
 ghost use Rattle.zone_state.specs.Zone.{IsZoneOn, InRange};
-ghost use Rattle.line_system.specs.State.{plain, parts, link_between, links_of, message_of, world_moved, parts_taken, parts_next, taken, taken_start, taken_with, taken_behind, HasRoom, TakenInRange, EventInRange, due_of};
+ghost use Rattle.line_system.specs.Frames.{AllFit, IsFrameAt};
+ghost use Rattle.line_system.specs.State.{plain, parts, link_between, links_of, message_of, world_moved, parts_taken, parts_next, tally, IsStart, taken_with, lost_with, lost_to, tally_behind, counted, on_link, HasRoom, TakenInRange, EventInRange, due_of};
 
+use crate::link::{Link, post};
+use crate::losses::Losses;
 use definitions::event::{Event, Kind};
 use definitions::message::Msg;
 use line_map::Line;
@@ -29,7 +33,8 @@ fn is_ranged(least: u32, most: u32, number: u32) -> bool
     least <= number && number <= most
 }
 
-fn is_actor(line: &Line, actor: u8) -> bool
+/// Whether an actor is the world or a zone of the line.
+pub fn is_actor(line: &Line, actor: u8) -> bool
     ensures { result ≡ is_actor line.now actor }
 {
     actor == 0 || line.has_zone(ZoneId(actor))
@@ -40,6 +45,20 @@ fn is_link(line: &Line, to: u8, from: u8) -> bool
     ensures { result ≡ (not (nat_eq to from) && (is_actor line.now to && is_actor line.now from)) }
 {
     to != from && (is_actor(line, to) && is_actor(line, from))
+}
+
+/// Whether messages that go from an actor to another can be lost.
+fn is_loss(line: &Line, from: u8, to: u8) -> bool
+    ensures { result ≡ (not (nat_eq to from) && (is_actor line.now from && is_actor line.now to)) }
+{
+    to != from && (is_actor(line, from) && is_actor(line, to))
+}
+
+/// Whether a report may tell this offset.
+fn is_offset(offset: i32) -> bool
+    ensures { result ≡ (le_z (pos 0 -ℤ pos 1000000) offset && le_z offset (pos 11000000)) }
+{
+    -1_000_000 <= offset && offset <= 11_000_000
 }
 
 fn is_equipped(kind: Kind) -> bool
@@ -63,37 +82,17 @@ fn are_on_line(line: &Line, steps: &[DirSeg]) -> bool
     steps.iter().all(|step| is_on_line(line, *step))
 }
 
-/// Puts those of some messages onto the link to an actor that go to it. The link has room for them.
-fn post(link: &mut Vec<Msg>, actor: u8, messages: &[(u8, Msg)])
-    requires { vec_len link.old + length messages.now ≤ vec_capacity link.old }
-    ensures { link.new.items ≡ link.old.items ++ to_actor actor messages.now }
-{
-    for (receiver, message) in messages {
-        if *receiver == actor {
-            link.push_reserved(message.copy());
-        }
-    }
-}
-
-/// The messages that went out on the link from an actor to another, by those to the zone and those to the world.
-fn link<'a>(zone: u8, to_zone: &'a [Msg], to_world: &'a [Msg], from: u8, to: u8) -> &'a [Msg]
-    ensures { result.now ≡ link_between zone to_zone.now to_world.now from to }
+/// The link from an actor to another, by that to the zone and that to the world; none that is not between the two.
+fn link<'a>(zone: u8, to_zone: &'a Link, to_world: &'a Link, from: u8, to: u8) -> Option<&'a Link>
+    ensures { on_link (option_copied result) ≡ link_between zone to_zone.now.messages to_world.now.messages from to }
 {
     if from == 0 {
-        if to == zone { to_zone } else { &[] }
+        if to == zone { Some(to_zone) } else { None }
     } else if from == zone {
-        if to == 0 { to_world } else { &[] }
+        if to == 0 { Some(to_world) } else { None }
     } else {
-        &[]
+        None
     }
-}
-
-/// A message of a link, by its ordinal from 1.
-fn message_at(messages: &[Msg], number: u32) -> &Msg
-    requires { nat_lt 0 number && nat_le number (length messages.now) ≡ true }
-    ensures { slice_get messages.now (number - 1) ≡ Some result.now }
-{
-    &messages[number as usize - 1]
 }
 
 /// Whether trains ascend, the first of them above a number.
@@ -115,28 +114,35 @@ fn are_ascending(train: u16, moves: &[(TrainId, u32)]) -> bool
 pub struct State {
     world: World,
     zone: Zone,
-    to_zone: Vec<Msg>,
-    to_world: Vec<Msg>,
+    to_zone: Link,
+    to_world: Link,
     /// The greatest ordinal that the zone took.
     taken_by_zone: u32,
     /// The greatest ordinal that the world took.
     taken_by_world: u32,
+    lost_to_zone: Losses,
+    lost_to_world: Losses,
+    /// How many messages went out.
+    messages: usize,
 }
 
 impl State {
     /// The state before the first event.
     pub fn new(alloc: Global, line: &Line, zone: ZoneId) -> Result<State, AllocError>
         ensures start { IfOk result (λ s. parts s ≡ record { world = world_start; zone = zone_start zone.0; to_zone = []; to_world = [] }) }
-        ensures taken { IfOk result (λ s. taken s ≡ taken_start) }
+        ensures tally { IfOk result (λ s. IsStart (tally s)) }
         ensures on_line { IfOk result (λ s. IsZoneOn line.now s.zone) }
     {
         Ok(State {
             world: World::start(alloc, line)?,
             zone: Zone::start(alloc, line, zone)?,
-            to_zone: Vec::new(alloc),
-            to_world: Vec::new(alloc),
+            to_zone: Link::new(alloc),
+            to_world: Link::new(alloc),
             taken_by_zone: 0,
             taken_by_world: 0,
+            lost_to_zone: Losses::new(alloc)?,
+            lost_to_world: Losses::new(alloc)?,
+            messages: 0,
         })
     }
 
@@ -157,7 +163,7 @@ impl State {
     /// Reserves room for the messages of one step. It changes nothing else.
     pub fn reserve(&mut self) -> Result<(), AllocError>
         ensures parts { parts self.new ≡ parts self.old }
-        ensures taken { taken self.new ≡ taken self.old }
+        ensures tally { tally self.new ≡ tally self.old }
         ensures zone { self.new.zone ≡ self.old.zone }
         ensures room { OnOk result (HasRoom self.new) }
     {
@@ -165,17 +171,78 @@ impl State {
         self.to_world.reserve(ROOM)
     }
 
-    /// The messages that went out on the link from an actor to another.
-    fn link(&self, from: u8, to: u8) -> &[Msg]
-        ensures { result.now ≡ (plain self.now).links from to }
+    /// The link from an actor to another.
+    fn link(&self, from: u8, to: u8) -> Option<&Link>
+        ensures { on_link (option_copied result) ≡ links_of (parts self.now) from to }
     {
-        link(
-            self.zone.id(),
-            self.to_zone.as_slice(),
-            self.to_world.as_slice(),
-            from,
-            to,
-        )
+        link(self.zone.id(), &self.to_zone, &self.to_world, from, to)
+    }
+
+    /// How many messages went out on the link from an actor to another.
+    pub fn sent(&self, from: u8, to: u8) -> usize
+        ensures { result ≡ length (links_of (parts self.now) from to) }
+    {
+        match self.link(from, to) {
+            Some(link) => link.len(),
+            None => 0,
+        }
+    }
+
+    /// A message of the link from an actor to another, by its ordinal from 1.
+    fn message(&self, from: u8, to: u8, number: u32) -> Msg
+        requires { nat_lt 0 number && nat_le number (length (links_of (parts self.now) from to)) ≡ true }
+        ensures { message_of (parts self.now) to from number ≡ Some result }
+    {
+        let Some(link) = self.link(from, to) else {
+            unreachable!()
+        };
+        link.message(number)
+    }
+
+    /// The frame of a message of the link from an actor to another, by its ordinal from 1; none where none has it.
+    pub fn frame(&self, from: u8, to: u8, number: u32) -> Option<&[u8]>
+        ensures { IsFrameAt (links_of (parts self.now) from to) number (option_copied result) }
+    {
+        match self.link(from, to) {
+            Some(link) => if 0 < number && number as usize <= link.len() {
+                Some(link.frame(number))
+            } else {
+                None
+            },
+            None => None,
+        }
+    }
+
+    /// How many messages went out.
+    pub fn messages(&self) -> usize
+        ensures { result ≡ (tally self.now).messages }
+    {
+        self.messages
+    }
+
+    /// Whether a message of the link to an actor is named lost, by an ordinal that a link can have.
+    pub fn is_lost(&self, to: u8, number: u32) -> bool
+        requires { number ≤ 200000 }
+        ensures { result ≡ lost_to to (tally self.now) number }
+    {
+        if to == 0 {
+            self.lost_to_world.has(number)
+        } else {
+            self.lost_to_zone.has(number)
+        }
+    }
+
+    /// A message of the link to an actor is named lost.
+    fn lose(&mut self, to: u8, number: u32)
+        ensures parts { parts self.new ≡ parts self.old }
+        ensures tally { tally self.new ≡ lost_with to number (tally self.old) }
+        ensures zone { self.new.zone ≡ self.old.zone }
+    {
+        if to == 0 {
+            self.lost_to_world.mark(number);
+        } else {
+            self.lost_to_zone.mark(number);
+        }
     }
 
     /// Whether a train is declared.
@@ -205,22 +272,33 @@ impl State {
             }
             Event::Entry(train, step) => self.is_declared(*train) && line.begins_at_portal(*step),
             Event::Enter(train) => self.is_declared(*train),
-            Event::Ask(train, zone, steps, _) => {
+            Event::Ask(train, zone, steps, to) => {
                 self.is_declared(*train)
-                    && (line.has_zone(*zone) && are_on_line(line, steps.as_slice()))
+                    && (line.has_zone(*zone)
+                        && (is_ranged(1, 24, steps.as_slice().len() as u32)
+                            && (are_on_line(line, steps.as_slice())
+                                && is_ranged(1, 10_000_000, *to))))
             }
             Event::Step(ms, moves) => {
                 is_ranged(1, 60_000, *ms)
                     && (are_ascending(0, moves.as_slice()) && self.are_declared(moves.as_slice()))
             }
-            Event::Report(train, zone, step, _, _) => {
-                self.is_declared(*train) && (line.has_zone(*zone) && is_on_line(line, *step))
+            Event::Report(train, zone, step, offset, _) => {
+                self.is_declared(*train)
+                    && (line.has_zone(*zone) && (is_on_line(line, *step) && is_offset(*offset)))
             }
             Event::Time(zone, train) => {
                 line.has_zone(*zone) && (train.0 == 0 || self.is_declared(*train))
             }
             Event::Take(to, from, _) => is_link(line, *to, *from),
             Event::Deliver(to) => is_actor(line, *to),
+            Event::Noise(to, from, bytes) => {
+                *to != *from
+                    && (is_actor(line, *to)
+                        && (is_actor(line, *from) && !bytes.as_slice().is_empty()))
+            }
+            Event::Round(number) => is_ranged(1, 2_000, *number),
+            Event::Lost(from, to, _) => is_loss(line, *from, *to),
             _ => false,
         }
     }
@@ -240,7 +318,7 @@ impl State {
     {
         match event {
             Event::Take(to, from, number) => *number > 0
-                && *number as usize <= self.link(*from, *to).len(),
+                && *number as usize <= self.sent(*from, *to),
             _ => true,
         }
     }
@@ -262,11 +340,12 @@ impl State {
         requires fits { StepFits self.old.world event.now }
         requires built { IsBuilt event.now }
         requires kept { world_premise self.old.world event.now ≡ 0 }
+        requires frames { AllFit (world_event_effect line.now (parts self.old).world event.now).issued }
         requires room { HasRoom self.old }
         ensures gives { outs.new ≡ world_event_effect line.now (parts self.old).world event.now }
         ensures next { parts self.new ≡ world_moved (parts self.old) (world_event_next line.now (parts self.old).world event.now) (world_event_effect line.now (parts self.old).world event.now) }
         ensures same { self.new.zone ≡ self.old.zone }
-        ensures taken { taken self.new ≡ taken self.old }
+        ensures tally { tally self.new ≡ tally self.old }
         ensures world_on { IsWorldOn line.now self.new.world }
     {
         self.world.step(line, event, outs);
@@ -278,22 +357,16 @@ impl State {
         requires empty { outs.old ≡ nothing }
         requires world_on { IsWorldOn line.now self.old.world }
         requires there { nat_lt 0 number && nat_le number (length (links_of (parts self.old) from 0)) ≡ true }
+        requires frames { AllFit (taken_effect line.now (plain self.old) 0 from (message_of (parts self.old) 0 from number)).issued }
         requires room { HasRoom self.old }
         ensures gives { outs.new ≡ taken_effect line.now (plain self.old) 0 from (message_of (parts self.old) 0 from number) }
         ensures next { parts self.new ≡ parts_taken line.now (parts self.old) 0 from (message_of (parts self.old) 0 from number) }
         ensures same { self.new.zone ≡ self.old.zone }
-        ensures taken { taken self.new ≡ record { by_zone = self.old.taken_by_zone; by_world = max number self.old.taken_by_world } }
+        ensures tally { tally self.new ≡ record (tally self.old) { by_world = max number self.old.taken_by_world } }
         ensures world_on { IsWorldOn line.now self.new.world }
     {
-        let sent = link(
-            self.zone.id(),
-            self.to_zone.as_slice(),
-            self.to_world.as_slice(),
-            from,
-            0,
-        );
-        let message = message_at(sent, number);
-        self.world.take(line, from, message, outs);
+        let message = self.message(from, 0, number);
+        self.world.take(line, from, &message, outs);
         self.taken_by_world = number.max(self.taken_by_world);
         post(&mut self.to_zone, self.zone.id(), outs.messages());
     }
@@ -305,22 +378,16 @@ impl State {
         requires zone { 0 < to }
         requires range { TakenInRange (message_of (parts self.old) to from number) }
         requires there { nat_lt 0 number && nat_le number (length (links_of (parts self.old) from to)) ≡ true }
+        requires frames { AllFit (taken_effect line.now (plain self.old) to from (message_of (parts self.old) to from number)).issued }
         requires room { HasRoom self.old }
         ensures gives { outs.new ≡ taken_effect line.now (plain self.old) to from (message_of (parts self.old) to from number) }
         ensures next { parts self.new ≡ parts_taken line.now (parts self.old) to from (message_of (parts self.old) to from number) }
         ensures on_line { IsZoneOn line.now self.new.zone }
-        ensures taken { taken self.new ≡ record { by_zone = max number self.old.taken_by_zone; by_world = self.old.taken_by_world } }
+        ensures tally { tally self.new ≡ record (tally self.old) { by_zone = max number self.old.taken_by_zone } }
         ensures same { self.new.world ≡ self.old.world }
     {
-        let sent = link(
-            self.zone.id(),
-            self.to_zone.as_slice(),
-            self.to_world.as_slice(),
-            from,
-            to,
-        );
-        let message = message_at(sent, number);
-        self.zone.step(line, message, from, outs);
+        let message = self.message(from, to, number);
+        self.zone.step(line, &message, from, outs);
         self.taken_by_zone = number.max(self.taken_by_zone);
         post(&mut self.to_world, 0, outs.messages());
     }
@@ -332,10 +399,11 @@ impl State {
         requires world_on { IsWorldOn line.now self.old.world }
         requires range { TakenInRange (message_of (parts self.old) to from number) }
         requires there { nat_lt 0 number && nat_le number (length (links_of (parts self.old) from to)) ≡ true }
+        requires frames { AllFit (taken_effect line.now (plain self.old) to from (message_of (parts self.old) to from number)).issued }
         requires room { HasRoom self.old }
         ensures gives { outs.new ≡ taken_effect line.now (plain self.old) to from (message_of (parts self.old) to from number) }
         ensures next { parts self.new ≡ parts_taken line.now (parts self.old) to from (message_of (parts self.old) to from number) }
-        ensures taken { taken self.new ≡ taken_with to number (taken self.old) }
+        ensures tally { tally self.new ≡ taken_with to number (tally self.old) }
         ensures on_line { IsZoneOn line.now self.new.zone }
         ensures world_on { IsWorldOn line.now self.new.world }
     {
@@ -343,6 +411,33 @@ impl State {
             self.world_takes(line, from, number, outs);
         } else {
             self.zone_takes(line, to, from, number, outs);
+        }
+    }
+
+    /// What an event that is no delivery gives, and what it makes of all but the count of messages.
+    fn act(&mut self, line: &Line, event: &Event, outs: &mut Outs)
+        requires empty { outs.old ≡ nothing }
+        requires on_line { IsZoneOn line.now self.old.zone }
+        requires world_on { IsWorldOn line.now self.old.world }
+        requires fits { StepFits self.old.world event.now }
+        requires built { IsBuilt event.now }
+        requires kept { plain_premise (plain self.old) event.now ≡ 0 }
+        requires range { EventInRange (plain self.old) event.now }
+        requires frames { AllFit (plain_effect line.now (plain self.old) event.now).issued }
+        requires room { HasRoom self.old }
+        ensures gives { outs.new ≡ plain_effect line.now (plain self.old) event.now }
+        ensures next { parts self.new ≡ parts_next line.now (parts self.old) event.now }
+        ensures tally { tally self.new ≡ tally_behind event.now (tally self.old) }
+        ensures on_line { IsZoneOn line.now self.new.zone }
+        ensures world_on { IsWorldOn line.now self.new.world }
+    {
+        match event {
+            Event::Take(to, from, number) => self.take(line, *to, *from, *number, outs),
+            Event::Lost(_, to, number) => {
+                self.world_steps(line, event, outs);
+                self.lose(*to, *number);
+            }
+            _ => self.world_steps(line, event, outs),
         }
     }
 
@@ -355,22 +450,22 @@ impl State {
         requires built { IsBuilt event.now }
         requires kept { plain_premise (plain self.old) event.now ≡ 0 }
         requires range { EventInRange (plain self.old) event.now }
+        requires frames { AllFit (plain_effect line.now (plain self.old) event.now).issued }
         requires room { HasRoom self.old }
+        requires count { self.old.messages ≤ 1000000 }
         ensures gives { outs.new ≡ plain_effect line.now (plain self.old) event.now }
         ensures next { parts self.new ≡ parts_next line.now (parts self.old) event.now }
-        ensures taken { taken self.new ≡ taken_behind event.now (taken self.old) }
+        ensures tally { tally self.new ≡ counted (length outs.new.issued) (tally_behind event.now (tally self.old)) }
         ensures on_line { IsZoneOn line.now self.new.zone }
         ensures world_on { IsWorldOn line.now self.new.world }
     {
-        match event {
-            Event::Take(to, from, number) => self.take(line, *to, *from, *number, outs),
-            _ => self.world_steps(line, event, outs),
-        }
+        self.act(line, event, outs);
+        self.messages += outs.messages().len();
     }
 
     /// The sender of the messages to an actor of the line, the greatest ordinal of them that it took, and how many were sent.
     pub fn due(&self, to: u8) -> (u8, usize, usize)
-        ensures { result ≡ due_of (parts self.now) (taken self.now) to }
+        ensures { result ≡ due_of (parts self.now) (tally self.now) to }
     {
         if to == 0 {
             (

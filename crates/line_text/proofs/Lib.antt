@@ -1,3 +1,3 @@
-pub mod Good_table
-pub mod Item_values
-pub mod Reading
+pub mod Item_table
+pub mod Item_said
+pub mod Item_taken

@@ -1,2 +1,2 @@
-pub mod Tests
+pub mod By_test
 pub mod Placed

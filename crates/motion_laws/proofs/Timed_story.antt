@@ -2,7 +2,7 @@
 use Rattle.std.proofs.Common.{◌≡◌, ℕ, max, arith, List, [], ◌∷◌, true, refl}
 use Rattle.std.proofs.lemmas.Bool.Decides.{nat_tests}
 use Rattle.std.specs.Prelude.{nat_eq, nat_le}
-use Rattle.list_laws.proofs.Tests.{by_test}
+use Rattle.list_laws.proofs.By_test.{by_test}
 use Rattle.definitions.specs.declared.event.Event.{Event}
 use Rattle.definitions.specs.Track.{Line}
 use Rattle.definitions.specs.Story.{Transition, Story}
@@ -11,7 +11,7 @@ use Rattle.definitions.specs.Control.{message_time, took_time, now_of}
 use Rattle.definitions.specs.Steps.{effects, story_of}
 use Rattle.definitions.specs.Safe.{Kept}
 use Rattle.event_laws.proofs.By_does.{effect_times, effect_took}
-use Rattle.event_laws.proofs.Issued.{AllIssued, all_weaker}
+use Rattle.event_laws.proofs.Issued_all.{AllIssued, all_weaker}
 use Rattle.event_laws.proofs.Admitted.{Admitted, admitted}
 use Rattle.event_laws.proofs.Moment_most.{moment_stays, moment_now, moment_zero}
 use Rattle.motion_laws.proofs.Motion.{Timed}

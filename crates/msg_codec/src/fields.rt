@@ -1,18 +1,18 @@
 //! Reading fields from the left. Each reader gives a value and the bytes behind it.
 ghost use Rattle.std.specs.Prelude.{◌≡◌, ◌≤◌, IfOk};
-ghost use Rattle.msg_codec.specs.Fields.{Gives, number_at, items_at, maybe};
-ghost use Rattle.msg_codec.specs.Layouts.{id, train, section, switch, any_train, time, ordinal, any, yes, position, seen_what, offset, step, steps, end, path, facts, counts, fronts, numbers, order};
-ghost use Rattle.msg_codec.specs.Layouts as spec;
+ghost use Rattle.definitions.specs.FrameFields.{Gives, number_at, items_at, maybe};
+ghost use Rattle.definitions.specs.FrameLayouts.{id, train, section, switch, any_train, time, ordinal, any, yes, position, seen_what, offset, step, steps, end, path, facts, counts, fronts, numbers, order};
+ghost use Rattle.definitions.specs.FrameLayouts as spec;
 
-use crate::fault::Unread;
 use crate::flags::integrity_of;
 use arrayvec::ArrayVec;
 use byteorder::{BigEndian, ByteOrder};
+use definitions::frame::Unread;
 use definitions::message::{Order, SeenWhat};
 use track_points::{BlockId, Dir, DirSeg, Path, Position, SectionId, SegId, SwitchId, TrainId};
 
 /// A number of a byte from `lo` to `hi`.
-#[tactic(auto, unfolding(crate::specs::Fields::number_at))]
+#[tactic(auto, unfolding(definitions::specs::FrameFields::number_at))]
 pub fn number_1(bytes: &[u8], lo: u8, hi: u8) -> Result<(u8, &[u8]), Unread>
     ensures most { IfOk result (λ x. x.0 ≤ hi) }
     ensures read { Gives (λ x. (x.0, x.1.now)) result (number_at 1 lo hi bytes.now) }
@@ -27,7 +27,7 @@ pub fn number_1(bytes: &[u8], lo: u8, hi: u8) -> Result<(u8, &[u8]), Unread>
 }
 
 /// A number of two bytes from `lo` to `hi`.
-#[tactic(auto, unfolding(crate::specs::Fields::number_at))]
+#[tactic(auto, unfolding(definitions::specs::FrameFields::number_at))]
 pub fn number_2(bytes: &[u8], lo: u16, hi: u16) -> Result<(u16, &[u8]), Unread>
     ensures { Gives (λ x. (x.0, x.1.now)) result (number_at 2 lo hi bytes.now) }
 {
@@ -42,7 +42,7 @@ pub fn number_2(bytes: &[u8], lo: u16, hi: u16) -> Result<(u16, &[u8]), Unread>
 }
 
 /// A number of four bytes from `lo` to `hi`.
-#[tactic(auto, unfolding(crate::specs::Fields::number_at))]
+#[tactic(auto, unfolding(definitions::specs::FrameFields::number_at))]
 pub fn number_4(bytes: &[u8], lo: u32, hi: u32) -> Result<(u32, &[u8]), Unread>
     ensures most { IfOk result (λ x. x.0 ≤ hi) }
     ensures read { Gives (λ x. (x.0, x.1.now)) result (number_at 4 lo hi bytes.now) }
@@ -58,7 +58,7 @@ pub fn number_4(bytes: &[u8], lo: u32, hi: u32) -> Result<(u32, &[u8]), Unread>
 }
 
 /// A number of eight bytes from `lo` to `hi`.
-#[tactic(auto, unfolding(crate::specs::Fields::number_at))]
+#[tactic(auto, unfolding(definitions::specs::FrameFields::number_at))]
 pub fn number_8(bytes: &[u8], lo: u64, hi: u64) -> Result<(u64, &[u8]), Unread>
     ensures { Gives (λ x. (x.0, x.1.now)) result (number_at 8 lo hi bytes.now) }
 {
@@ -73,7 +73,7 @@ pub fn number_8(bytes: &[u8], lo: u64, hi: u64) -> Result<(u64, &[u8]), Unread>
 }
 
 /// Reads a train.
-#[tactic(auto, unfolding(crate::specs::Layouts::train, crate::specs::Layouts::id))]
+#[tactic(auto, unfolding(definitions::specs::FrameLayouts::train, definitions::specs::FrameLayouts::id))]
 pub fn read_train(bytes: &[u8]) -> Result<(TrainId, &[u8]), Unread>
     ensures { Gives (λ x. (x.0, x.1.now)) result (train.read bytes.now) }
 {
@@ -82,7 +82,7 @@ pub fn read_train(bytes: &[u8]) -> Result<(TrainId, &[u8]), Unread>
 }
 
 /// Reads a time in ms, below 2^40.
-#[tactic(auto, unfolding(crate::specs::Layouts::time))]
+#[tactic(auto, unfolding(definitions::specs::FrameLayouts::time))]
 pub fn read_time(bytes: &[u8]) -> Result<(u64, &[u8]), Unread>
     ensures { Gives (λ x. (x.0, x.1.now)) result (time.read bytes.now) }
 {
@@ -90,7 +90,7 @@ pub fn read_time(bytes: &[u8]) -> Result<(u64, &[u8]), Unread>
 }
 
 /// Reads a section.
-#[tactic(auto, unfolding(crate::specs::Layouts::section, crate::specs::Layouts::id))]
+#[tactic(auto, unfolding(definitions::specs::FrameLayouts::section, definitions::specs::FrameLayouts::id))]
 pub fn read_section(bytes: &[u8]) -> Result<(SectionId, &[u8]), Unread>
     ensures { Gives (λ x. (x.0, x.1.now)) result (section.read bytes.now) }
 {
@@ -99,7 +99,7 @@ pub fn read_section(bytes: &[u8]) -> Result<(SectionId, &[u8]), Unread>
 }
 
 /// Reads a switch.
-#[tactic(auto, unfolding(crate::specs::Layouts::switch, crate::specs::Layouts::id))]
+#[tactic(auto, unfolding(definitions::specs::FrameLayouts::switch, definitions::specs::FrameLayouts::id))]
 pub fn read_switch(bytes: &[u8]) -> Result<(SwitchId, &[u8]), Unread>
     ensures { Gives (λ x. (x.0, x.1.now)) result (switch.read bytes.now) }
 {
@@ -108,7 +108,7 @@ pub fn read_switch(bytes: &[u8]) -> Result<(SwitchId, &[u8]), Unread>
 }
 
 /// Reads a train, or 0 for none.
-#[tactic(auto, unfolding(crate::specs::Layouts::any_train))]
+#[tactic(auto, unfolding(definitions::specs::FrameLayouts::any_train))]
 pub fn read_any_train(bytes: &[u8]) -> Result<(TrainId, &[u8]), Unread>
     ensures { Gives (λ x. (x.0, x.1.now)) result (any_train.read bytes.now) }
 {
@@ -117,7 +117,7 @@ pub fn read_any_train(bytes: &[u8]) -> Result<(TrainId, &[u8]), Unread>
 }
 
 /// Reads a number from 1.
-#[tactic(auto, unfolding(crate::specs::Layouts::ordinal))]
+#[tactic(auto, unfolding(definitions::specs::FrameLayouts::ordinal))]
 pub fn read_ordinal(bytes: &[u8]) -> Result<(u32, &[u8]), Unread>
     ensures { Gives (λ x. (x.0, x.1.now)) result (ordinal.read bytes.now) }
 {
@@ -125,7 +125,7 @@ pub fn read_ordinal(bytes: &[u8]) -> Result<(u32, &[u8]), Unread>
 }
 
 /// Reads a number.
-#[tactic(auto, unfolding(crate::specs::Layouts::any))]
+#[tactic(auto, unfolding(definitions::specs::FrameLayouts::any))]
 pub fn read_any(bytes: &[u8]) -> Result<(u32, &[u8]), Unread>
     ensures { Gives (λ x. (x.0, x.1.now)) result (any.read bytes.now) }
 {
@@ -133,7 +133,7 @@ pub fn read_any(bytes: &[u8]) -> Result<(u32, &[u8]), Unread>
 }
 
 /// Reads the end of a path or of an ask, in mm on the last step.
-#[tactic(auto, unfolding(crate::specs::Layouts::end))]
+#[tactic(auto, unfolding(definitions::specs::FrameLayouts::end))]
 pub fn read_end(bytes: &[u8]) -> Result<(u32, &[u8]), Unread>
     ensures { Gives (λ x. (x.0, x.1.now)) result (end.read bytes.now) }
 {
@@ -141,7 +141,7 @@ pub fn read_end(bytes: &[u8]) -> Result<(u32, &[u8]), Unread>
 }
 
 /// Reads what was seen.
-#[tactic(auto, unfolding(crate::specs::Layouts::seen_what))]
+#[tactic(auto, unfolding(definitions::specs::FrameLayouts::seen_what))]
 pub fn read_seen(bytes: &[u8]) -> Result<(SeenWhat, &[u8]), Unread>
     ensures { Gives (λ x. (x.0, x.1.now)) result (seen_what.read bytes.now) }
 {
@@ -155,7 +155,7 @@ pub fn read_seen(bytes: &[u8]) -> Result<(SeenWhat, &[u8]), Unread>
 }
 
 /// Reads a truth value, or flags with one known bit.
-#[tactic(auto, unfolding(crate::specs::Layouts::yes))]
+#[tactic(auto, unfolding(definitions::specs::FrameLayouts::yes))]
 pub fn read_yes(bytes: &[u8]) -> Result<(bool, &[u8]), Unread>
     ensures { Gives (λ x. (x.0, x.1.now)) result (yes.read bytes.now) }
 {
@@ -164,7 +164,7 @@ pub fn read_yes(bytes: &[u8]) -> Result<(bool, &[u8]), Unread>
 }
 
 /// Reads the flags of a report.
-#[tactic(auto, unfolding(crate::specs::Layouts::yes, crate::specs::Fields::number_at))]
+#[tactic(auto, unfolding(definitions::specs::FrameLayouts::yes, definitions::specs::FrameFields::number_at))]
 pub fn read_integrity(bytes: &[u8]) -> Result<(bool, &[u8]), Unread>
     ensures { Gives (λ x. (x.0, x.1.now)) result (yes.read bytes.now) }
 {
@@ -178,7 +178,7 @@ pub fn read_integrity(bytes: &[u8]) -> Result<(bool, &[u8]), Unread>
 }
 
 /// Reads a position of a switch.
-#[tactic(auto, unfolding(crate::specs::Layouts::position))]
+#[tactic(auto, unfolding(definitions::specs::FrameLayouts::position))]
 pub fn read_position(bytes: &[u8]) -> Result<(Position, &[u8]), Unread>
     ensures { Gives (λ x. (x.0, x.1.now)) result (position.read bytes.now) }
 {
@@ -192,7 +192,7 @@ pub fn read_position(bytes: &[u8]) -> Result<(Position, &[u8]), Unread>
 }
 
 /// Reads an offset in mm.
-#[tactic(auto, unfolding(crate::specs::Layouts::offset, crate::specs::Layouts::any))]
+#[tactic(auto, unfolding(definitions::specs::FrameLayouts::offset, definitions::specs::FrameLayouts::any))]
 pub fn read_offset(bytes: &[u8]) -> Result<(i32, &[u8]), Unread>
     ensures { Gives (λ x. (x.0, x.1.now)) result (offset.read bytes.now) }
 {
@@ -205,7 +205,7 @@ pub fn read_offset(bytes: &[u8]) -> Result<(i32, &[u8]), Unread>
 }
 
 /// Reads a step.
-#[tactic(auto, unfolding(crate::specs::Layouts::step))]
+#[tactic(auto, unfolding(definitions::specs::FrameLayouts::step))]
 pub fn read_step(bytes: &[u8]) -> Result<(DirSeg, &[u8]), Unread>
     ensures { Gives (λ x. (x.0, x.1.now)) result (step.read bytes.now) }
 {
@@ -234,7 +234,7 @@ fn read_items(count: u8, bytes: &[u8]) -> Result<(ArrayVec<DirSeg, 24>, &[u8]), 
 }
 
 /// Reads 1 to 24 steps.
-#[tactic(auto, unfolding(crate::specs::Layouts::steps))]
+#[tactic(auto, unfolding(definitions::specs::FrameLayouts::steps))]
 pub fn read_steps(bytes: &[u8]) -> Result<(ArrayVec<DirSeg, 24>, &[u8]), Unread>
     ensures { Gives (λ x. (x.0, x.1.now)) result (steps.read bytes.now) }
 {
@@ -243,7 +243,7 @@ pub fn read_steps(bytes: &[u8]) -> Result<(ArrayVec<DirSeg, 24>, &[u8]), Unread>
 }
 
 /// Reads a path.
-#[tactic(auto, unfolding(crate::specs::Layouts::path))]
+#[tactic(auto, unfolding(definitions::specs::FrameLayouts::path))]
 pub fn read_path(bytes: &[u8]) -> Result<(Path, &[u8]), Unread>
     ensures { Gives (λ x. (x.0, x.1.now)) result (path.read bytes.now) }
 {
@@ -262,7 +262,7 @@ fn least_end(steps: &ArrayVec<DirSeg, 24>, from: u32) -> u32
 }
 
 /// Reads what is declared of a train: its length, error and speed, and its flags.
-#[tactic(auto, unfolding(crate::specs::Layouts::facts))]
+#[tactic(auto, unfolding(definitions::specs::FrameLayouts::facts))]
 pub fn read_facts(bytes: &[u8]) -> Result<((u32, u32, u16, bool), &[u8]), Unread>
     ensures { Gives (λ x. ((x.0.0, (x.0.1, (x.0.2, x.0.3))), x.1.now)) result (facts.read bytes.now) }
 {
@@ -274,7 +274,7 @@ pub fn read_facts(bytes: &[u8]) -> Result<((u32, u32, u16, bool), &[u8]), Unread
 }
 
 /// Reads the last number issued and the greatest answered.
-#[tactic(auto, unfolding(crate::specs::Layouts::counts))]
+#[tactic(auto, unfolding(definitions::specs::FrameLayouts::counts))]
 pub fn read_counts(bytes: &[u8]) -> Result<((u32, u32), &[u8]), Unread>
     ensures { Gives (λ x. (x.0, x.1.now)) result (counts.read bytes.now) }
 {
@@ -284,7 +284,7 @@ pub fn read_counts(bytes: &[u8]) -> Result<((u32, u32), &[u8]), Unread>
 }
 
 /// Reads the least and the greatest front, in mm.
-#[tactic(auto, unfolding(crate::specs::Layouts::fronts))]
+#[tactic(auto, unfolding(definitions::specs::FrameLayouts::fronts))]
 pub fn read_fronts(bytes: &[u8]) -> Result<((u32, u32), &[u8]), Unread>
     ensures { Gives (λ x. (x.0, x.1.now)) result (fronts.read bytes.now) }
 {
@@ -294,7 +294,7 @@ pub fn read_fronts(bytes: &[u8]) -> Result<((u32, u32), &[u8]), Unread>
 }
 
 /// Reads the numbers of the last ask and lend, and the mark.
-#[tactic(auto, unfolding(crate::specs::Layouts::numbers))]
+#[tactic(auto, unfolding(definitions::specs::FrameLayouts::numbers))]
 pub fn read_numbers(bytes: &[u8]) -> Result<((u32, u32, u32), &[u8]), Unread>
     ensures { Gives (λ x. ((x.0.0, (x.0.1, x.0.2)), x.1.now)) result (numbers.read bytes.now) }
 {
@@ -305,7 +305,7 @@ pub fn read_numbers(bytes: &[u8]) -> Result<((u32, u32, u32), &[u8]), Unread>
 }
 
 /// Reads an order.
-#[tactic(auto, unfolding(crate::specs::Layouts::order, crate::specs::Layouts::order_fields, crate::specs::Layouts::id))]
+#[tactic(auto, unfolding(definitions::specs::FrameLayouts::order, definitions::specs::FrameLayouts::order_fields, definitions::specs::FrameLayouts::id))]
 pub fn read_order(bytes: &[u8]) -> Result<(Order, &[u8]), Unread>
     ensures { Gives (λ x. (x.0, x.1.now)) result (order.read bytes.now) }
 {

@@ -1,10 +1,9 @@
 //! Messages as frames of bytes, and the room for what one step gives.
 //!
 //! A frame is the one spelling of a message as bytes: a version, a kind, and the fields of the kind, numbers with their
-//! greatest byte first. `specs/` has the fields with their widths and ranges, and what reading bytes from the left gives.
+//! greatest byte first. The definitions have the fields with their widths and ranges, and what reading bytes from the left gives.
 #![tactic(auto)]
 
-pub mod fault;
 pub mod fields;
 pub mod flags;
 pub mod outs;
@@ -14,9 +13,9 @@ mod tests;
 pub mod writing;
 
 pub use definitions::event::Event;
+pub use definitions::frame::Unread;
 pub use definitions::message::{Hand, Msg, Order, SeenWhat};
 pub use definitions::outcome::{FrameFault, Outcome};
-pub use fault::Unread;
 pub use outs::Outs;
 pub use reading::decode;
 pub use writing::encode;

@@ -1,21 +1,21 @@
 //! The message that bytes spell.
 ghost use Rattle.std.specs.Prelude.{true, ◌≡◌, ◌≤◌, ◌+◌, length, IfOk, Ok};
-ghost use Rattle.msg_codec.specs.Fields.{Gives, as_read};
-ghost use Rattle.msg_codec.specs.Layouts as spec;
-ghost use Rattle.msg_codec.specs.Frames.{Fits, IsPlaced, placed, whole, frame_of, frame_at, body_at, handed_of, report_of, has_version, has_kind, reading_of, time_told_of, entry_ask_of, ask_of, answer_of, gone_of, echo_of, order_told_of, auth_of, switch_cmd_of, lend_ask_of, lend_of, returned_of, seen_told_of};
+ghost use Rattle.definitions.specs.FrameFields.{Gives, as_read};
+ghost use Rattle.definitions.specs.FrameLayouts as spec;
+ghost use Rattle.definitions.specs.Frames.{Fits, IsPlaced, placed, whole, frame_of, frame_at, body_at, handed_of, report_of, has_version, has_kind, reading_of, time_told_of, entry_ask_of, ask_of, answer_of, gone_of, echo_of, order_told_of, auth_of, switch_cmd_of, lend_ask_of, lend_of, returned_of, seen_told_of};
 
-use crate::fault::Unread;
 use crate::fields::{
     read_any, read_any_train, read_counts, read_end, read_facts, read_fronts, read_integrity,
     read_kept, read_numbers, read_offset, read_order, read_ordinal, read_path, read_position,
     read_section, read_seen, read_step, read_steps, read_switch, read_time, read_train, read_yes,
 };
+use definitions::frame::Unread;
 use definitions::message::{Hand, Msg};
 use definitions::outcome::FrameFault;
 use track_points::TrainId;
 
 /// Reads the fields of a report.
-#[tactic(auto, unfolding(crate::specs::Layouts::report))]
+#[tactic(auto, unfolding(definitions::specs::FrameLayouts::report))]
 fn report_fields(bytes: &[u8]) -> Result<((TrainId, u64, u32, i32, bool), &[u8]), Unread>
     ensures { Gives (λ x. ((x.0.0, (x.0.1, (x.0.2, (x.0.3, x.0.4)))), x.1.now)) result (spec.report.read bytes.now) }
 {
@@ -45,7 +45,7 @@ fn report(bytes: &[u8]) -> Result<(Msg, &[u8]), Unread>
 }
 
 /// Reads what a section shows.
-#[tactic(auto, unfolding(crate::specs::Layouts::reading))]
+#[tactic(auto, unfolding(definitions::specs::FrameLayouts::reading))]
 fn reading(bytes: &[u8]) -> Result<(Msg, &[u8]), Unread>
     ensures { Gives (λ x. (x.0, x.1.now)) result (as_read reading_of (spec.reading.read bytes.now)) }
 {
@@ -63,7 +63,7 @@ fn reading(bytes: &[u8]) -> Result<(Msg, &[u8]), Unread>
 }
 
 /// Reads the time.
-#[tactic(auto, unfolding(crate::specs::Layouts::time_told))]
+#[tactic(auto, unfolding(definitions::specs::FrameLayouts::time_told))]
 fn time_told(bytes: &[u8]) -> Result<(Msg, &[u8]), Unread>
     ensures { Gives (λ x. (x.0, x.1.now)) result (as_read time_told_of (spec.time_told.read bytes.now)) }
 {
@@ -73,7 +73,7 @@ fn time_told(bytes: &[u8]) -> Result<(Msg, &[u8]), Unread>
 }
 
 /// Reads a request for entry.
-#[tactic(auto, unfolding(crate::specs::Layouts::entry_ask))]
+#[tactic(auto, unfolding(definitions::specs::FrameLayouts::entry_ask))]
 fn entry_ask(bytes: &[u8]) -> Result<(Msg, &[u8]), Unread>
     ensures { Gives (λ x. (x.0, x.1.now)) result (as_read entry_ask_of (spec.entry_ask.read bytes.now)) }
 {
@@ -96,7 +96,7 @@ fn entry_ask(bytes: &[u8]) -> Result<(Msg, &[u8]), Unread>
 }
 
 /// Reads an ask.
-#[tactic(auto, unfolding(crate::specs::Layouts::ask))]
+#[tactic(auto, unfolding(definitions::specs::FrameLayouts::ask))]
 fn ask(bytes: &[u8]) -> Result<(Msg, &[u8]), Unread>
     ensures { Gives (λ x. (x.0, x.1.now)) result (as_read ask_of (spec.ask.read bytes.now)) }
 {
@@ -116,7 +116,7 @@ fn ask(bytes: &[u8]) -> Result<(Msg, &[u8]), Unread>
 }
 
 /// Reads an answer.
-#[tactic(auto, unfolding(crate::specs::Layouts::answer))]
+#[tactic(auto, unfolding(definitions::specs::FrameLayouts::answer))]
 fn answer(bytes: &[u8]) -> Result<(Msg, &[u8]), Unread>
     ensures { Gives (λ x. (x.0, x.1.now)) result (as_read answer_of (spec.answer.read bytes.now)) }
 {
@@ -136,7 +136,7 @@ fn answer(bytes: &[u8]) -> Result<(Msg, &[u8]), Unread>
 }
 
 /// Reads that a train has left.
-#[tactic(auto, unfolding(crate::specs::Layouts::gone))]
+#[tactic(auto, unfolding(definitions::specs::FrameLayouts::gone))]
 fn gone(bytes: &[u8]) -> Result<(Msg, &[u8]), Unread>
     ensures { Gives (λ x. (x.0, x.1.now)) result (as_read gone_of (spec.gone.read bytes.now)) }
 {
@@ -146,7 +146,7 @@ fn gone(bytes: &[u8]) -> Result<(Msg, &[u8]), Unread>
 }
 
 /// Reads a switch's echo.
-#[tactic(auto, unfolding(crate::specs::Layouts::echo))]
+#[tactic(auto, unfolding(definitions::specs::FrameLayouts::echo))]
 fn echo(bytes: &[u8]) -> Result<(Msg, &[u8]), Unread>
     ensures { Gives (λ x. (x.0, x.1.now)) result (as_read echo_of (spec.echo.read bytes.now)) }
 {
@@ -166,7 +166,7 @@ fn echo(bytes: &[u8]) -> Result<(Msg, &[u8]), Unread>
 }
 
 /// Reads an order.
-#[tactic(auto, unfolding(crate::specs::Layouts::order_told))]
+#[tactic(auto, unfolding(definitions::specs::FrameLayouts::order_told))]
 fn order_told(bytes: &[u8]) -> Result<(Msg, &[u8]), Unread>
     ensures { Gives (λ x. (x.0, x.1.now)) result (as_read order_told_of (spec.order_told.read bytes.now)) }
 {
@@ -176,7 +176,7 @@ fn order_told(bytes: &[u8]) -> Result<(Msg, &[u8]), Unread>
 }
 
 /// Reads an authority.
-#[tactic(auto, unfolding(crate::specs::Layouts::auth))]
+#[tactic(auto, unfolding(definitions::specs::FrameLayouts::auth))]
 fn auth(bytes: &[u8]) -> Result<(Msg, &[u8]), Unread>
     ensures { Gives (λ x. (x.0, x.1.now)) result (as_read auth_of (spec.auth.read bytes.now)) }
 {
@@ -196,7 +196,7 @@ fn auth(bytes: &[u8]) -> Result<(Msg, &[u8]), Unread>
 }
 
 /// Reads a command to a switch.
-#[tactic(auto, unfolding(crate::specs::Layouts::switch_cmd))]
+#[tactic(auto, unfolding(definitions::specs::FrameLayouts::switch_cmd))]
 fn switch_cmd(bytes: &[u8]) -> Result<(Msg, &[u8]), Unread>
     ensures { Gives (λ x. (x.0, x.1.now)) result (as_read switch_cmd_of (spec.switch_cmd.read bytes.now)) }
 {
@@ -214,7 +214,7 @@ fn switch_cmd(bytes: &[u8]) -> Result<(Msg, &[u8]), Unread>
 }
 
 /// Reads an ask for a path of another zone.
-#[tactic(auto, unfolding(crate::specs::Layouts::lend_ask))]
+#[tactic(auto, unfolding(definitions::specs::FrameLayouts::lend_ask))]
 fn lend_ask(bytes: &[u8]) -> Result<(Msg, &[u8]), Unread>
     ensures { Gives (λ x. (x.0, x.1.now)) result (as_read lend_ask_of (spec.lend_ask.read bytes.now)) }
 {
@@ -234,7 +234,7 @@ fn lend_ask(bytes: &[u8]) -> Result<(Msg, &[u8]), Unread>
 }
 
 /// Reads a path that is lent.
-#[tactic(auto, unfolding(crate::specs::Layouts::lend))]
+#[tactic(auto, unfolding(definitions::specs::FrameLayouts::lend))]
 fn lend(bytes: &[u8]) -> Result<(Msg, &[u8]), Unread>
     ensures { Gives (λ x. (x.0, x.1.now)) result (as_read lend_of (spec.lend.read bytes.now)) }
 {
@@ -254,7 +254,7 @@ fn lend(bytes: &[u8]) -> Result<(Msg, &[u8]), Unread>
 }
 
 /// Reads what is kept of a lent path.
-#[tactic(auto, unfolding(crate::specs::Layouts::returned))]
+#[tactic(auto, unfolding(definitions::specs::FrameLayouts::returned))]
 fn returned(bytes: &[u8]) -> Result<(Msg, &[u8]), Unread>
     ensures { Gives (λ x. (x.0, x.1.now)) result (as_read returned_of (spec.returned.read bytes.now)) }
 {
@@ -265,7 +265,7 @@ fn returned(bytes: &[u8]) -> Result<(Msg, &[u8]), Unread>
 }
 
 /// Reads what was seen.
-#[tactic(auto, unfolding(crate::specs::Layouts::seen_told))]
+#[tactic(auto, unfolding(definitions::specs::FrameLayouts::seen_told))]
 fn seen_told(bytes: &[u8]) -> Result<(Msg, &[u8]), Unread>
     ensures { Gives (λ x. (x.0, x.1.now)) result (as_read seen_told_of (spec.seen_told.read bytes.now)) }
 {
@@ -283,7 +283,7 @@ fn seen_told(bytes: &[u8]) -> Result<(Msg, &[u8]), Unread>
 }
 
 /// A Hand behind its train.
-#[tactic(auto, unfolding(crate::specs::Layouts::hand_rest))]
+#[tactic(auto, unfolding(definitions::specs::FrameLayouts::hand_rest))]
 pub fn read_hand_rest(train: TrainId, bytes: &[u8]) -> Result<(Hand, &[u8]), Unread>
     ensures { Gives (λ x. (x.0, x.1.now)) result (as_read (λ y. spec.hand_of (train, y)) (spec.hand_rest.read bytes.now)) }
 {
@@ -315,7 +315,7 @@ pub fn read_hand_rest(train: TrainId, bytes: &[u8]) -> Result<(Hand, &[u8]), Unr
 }
 
 /// Reads a hand-over.
-#[tactic(auto, unfolding(crate::specs::Layouts::hand))]
+#[tactic(auto, unfolding(definitions::specs::FrameLayouts::hand))]
 fn hand(bytes: &[u8]) -> Result<(Hand, &[u8]), Unread>
     ensures { Gives (λ x. (x.0, x.1.now)) result (spec.hand.read bytes.now) }
 {
@@ -324,7 +324,7 @@ fn hand(bytes: &[u8]) -> Result<(Hand, &[u8]), Unread>
 }
 
 /// The fields of a kind that its version has.
-#[tactic(auto, unfolding(crate::specs::Frames::body_at))]
+#[tactic(auto, unfolding(definitions::specs::Frames::body_at))]
 fn body(version: u8, kind: u8, bytes: &[u8]) -> Result<(Msg, &[u8]), Unread>
     ensures { Gives (λ x. (x.0, x.1.now)) result (body_at version kind bytes.now) }
 {
@@ -395,7 +395,7 @@ fn is_kind(version: u8, kind: u8) -> bool
 }
 
 /// What the bytes are, read from the left.
-#[tactic(auto, unfolding(crate::specs::Frames::frame_at))]
+#[tactic(auto, unfolding(definitions::specs::Frames::frame_at))]
 fn frame(bytes: &[u8]) -> Result<Msg, FrameFault>
     ensures { result ≡ frame_at bytes.now }
 {

@@ -1,8 +1,8 @@
 //! The frame of a message.
 ghost use Rattle.std.specs.Prelude.{◌≡◌, ◌≤◌, ◌+◌, ◌++◌, ◌∷◌, [], length, drop};
-ghost use Rattle.msg_codec.specs.Fields.{spelled, maybe};
-ghost use Rattle.msg_codec.specs.Layouts as spec;
-ghost use Rattle.msg_codec.specs.Frames.{frame_of};
+ghost use Rattle.definitions.specs.FrameFields.{spelled, maybe};
+ghost use Rattle.definitions.specs.FrameLayouts as spec;
+ghost use Rattle.definitions.specs.Frames.{frame_of};
 
 use arrayvec::ArrayVec;
 use byteorder::{BigEndian, ByteOrder};
@@ -13,7 +13,7 @@ use track_points::{Dir, DirSeg, Path, Position, SectionId, SwitchId, TrainId};
 pub type Frame = ArrayVec<u8, 128>;
 
 /// Writes a number of 1 byte.
-#[tactic(auto, unfolding(crate::specs::Fields::spelled))]
+#[tactic(auto, unfolding(definitions::specs::FrameFields::spelled))]
 pub fn put_1(out: &mut Frame, number: u8)
     requires { length out.old.items + 1 ≤ 128 }
     ensures items { out.new.items ≡ out.old.items ++ spelled 1 number }
@@ -23,7 +23,7 @@ pub fn put_1(out: &mut Frame, number: u8)
 }
 
 /// Writes a number of 2 bytes.
-#[tactic(auto, unfolding(crate::specs::Fields::spelled))]
+#[tactic(auto, unfolding(definitions::specs::FrameFields::spelled))]
 pub fn put_2(out: &mut Frame, number: u16)
     requires { length out.old.items + 2 ≤ 128 }
     ensures items { out.new.items ≡ out.old.items ++ spelled 2 number }
@@ -35,7 +35,7 @@ pub fn put_2(out: &mut Frame, number: u16)
 }
 
 /// Writes a number of 4 bytes.
-#[tactic(auto, unfolding(crate::specs::Fields::spelled))]
+#[tactic(auto, unfolding(definitions::specs::FrameFields::spelled))]
 pub fn put_4(out: &mut Frame, number: u32)
     requires { length out.old.items + 4 ≤ 128 }
     ensures items { out.new.items ≡ out.old.items ++ spelled 4 number }
@@ -47,7 +47,7 @@ pub fn put_4(out: &mut Frame, number: u32)
 }
 
 /// Writes a number of 8 bytes.
-#[tactic(auto, unfolding(crate::specs::Fields::spelled))]
+#[tactic(auto, unfolding(definitions::specs::FrameFields::spelled))]
 pub fn put_8(out: &mut Frame, number: u64)
     requires { length out.old.items + 8 ≤ 128 }
     ensures items { out.new.items ≡ out.old.items ++ spelled 8 number }
@@ -59,7 +59,7 @@ pub fn put_8(out: &mut Frame, number: u64)
 }
 
 /// Writes a train.
-#[tactic(auto, unfolding(crate::specs::Layouts::train, crate::specs::Layouts::id))]
+#[tactic(auto, unfolding(definitions::specs::FrameLayouts::train, definitions::specs::FrameLayouts::id))]
 fn put_train(out: &mut Frame, train: TrainId)
     requires { length out.old.items + 2 ≤ 128 }
     ensures items { out.new.items ≡ out.old.items ++ spec.train.spell train }
@@ -69,7 +69,7 @@ fn put_train(out: &mut Frame, train: TrainId)
 }
 
 /// Writes a section.
-#[tactic(auto, unfolding(crate::specs::Layouts::section, crate::specs::Layouts::id))]
+#[tactic(auto, unfolding(definitions::specs::FrameLayouts::section, definitions::specs::FrameLayouts::id))]
 fn put_section(out: &mut Frame, section: SectionId)
     requires { length out.old.items + 2 ≤ 128 }
     ensures items { out.new.items ≡ out.old.items ++ spec.section.spell section }
@@ -79,7 +79,7 @@ fn put_section(out: &mut Frame, section: SectionId)
 }
 
 /// Writes a switch.
-#[tactic(auto, unfolding(crate::specs::Layouts::switch, crate::specs::Layouts::id))]
+#[tactic(auto, unfolding(definitions::specs::FrameLayouts::switch, definitions::specs::FrameLayouts::id))]
 fn put_switch(out: &mut Frame, switch: SwitchId)
     requires { length out.old.items + 2 ≤ 128 }
     ensures items { out.new.items ≡ out.old.items ++ spec.switch.spell switch }
@@ -89,7 +89,7 @@ fn put_switch(out: &mut Frame, switch: SwitchId)
 }
 
 /// Writes a train, or 0 for none.
-#[tactic(auto, unfolding(crate::specs::Layouts::any_train))]
+#[tactic(auto, unfolding(definitions::specs::FrameLayouts::any_train))]
 fn put_any_train(out: &mut Frame, train: TrainId)
     requires { length out.old.items + 2 ≤ 128 }
     ensures items { out.new.items ≡ out.old.items ++ spec.any_train.spell train }
@@ -99,7 +99,7 @@ fn put_any_train(out: &mut Frame, train: TrainId)
 }
 
 /// Writes a time in ms, below 2^40.
-#[tactic(auto, unfolding(crate::specs::Layouts::time))]
+#[tactic(auto, unfolding(definitions::specs::FrameLayouts::time))]
 fn put_time(out: &mut Frame, time: u64)
     requires { length out.old.items + 8 ≤ 128 }
     ensures items { out.new.items ≡ out.old.items ++ spec.time.spell time }
@@ -109,7 +109,7 @@ fn put_time(out: &mut Frame, time: u64)
 }
 
 /// Writes a number from 1.
-#[tactic(auto, unfolding(crate::specs::Layouts::ordinal))]
+#[tactic(auto, unfolding(definitions::specs::FrameLayouts::ordinal))]
 fn put_ordinal(out: &mut Frame, number: u32)
     requires { length out.old.items + 4 ≤ 128 }
     ensures items { out.new.items ≡ out.old.items ++ spec.ordinal.spell number }
@@ -119,7 +119,7 @@ fn put_ordinal(out: &mut Frame, number: u32)
 }
 
 /// Writes a number.
-#[tactic(auto, unfolding(crate::specs::Layouts::any))]
+#[tactic(auto, unfolding(definitions::specs::FrameLayouts::any))]
 fn put_any(out: &mut Frame, number: u32)
     requires { length out.old.items + 4 ≤ 128 }
     ensures items { out.new.items ≡ out.old.items ++ spec.any.spell number }
@@ -129,7 +129,7 @@ fn put_any(out: &mut Frame, number: u32)
 }
 
 /// Writes the end of a path or of an ask, in mm on the last step.
-#[tactic(auto, unfolding(crate::specs::Layouts::end))]
+#[tactic(auto, unfolding(definitions::specs::FrameLayouts::end))]
 fn put_end(out: &mut Frame, to: u32)
     requires { length out.old.items + 4 ≤ 128 }
     ensures items { out.new.items ≡ out.old.items ++ spec.end.spell to }
@@ -139,7 +139,7 @@ fn put_end(out: &mut Frame, to: u32)
 }
 
 /// Writes a truth value, or flags with one known bit.
-#[tactic(auto, unfolding(crate::specs::Layouts::yes))]
+#[tactic(auto, unfolding(definitions::specs::FrameLayouts::yes))]
 fn put_yes(out: &mut Frame, yes: bool)
     requires { length out.old.items + 1 ≤ 128 }
     ensures items { out.new.items ≡ out.old.items ++ spec.yes.spell yes }
@@ -149,7 +149,7 @@ fn put_yes(out: &mut Frame, yes: bool)
 }
 
 /// Writes a position of a switch.
-#[tactic(auto, unfolding(crate::specs::Layouts::position))]
+#[tactic(auto, unfolding(definitions::specs::FrameLayouts::position))]
 fn put_position(out: &mut Frame, position: Position)
     requires { length out.old.items + 1 ≤ 128 }
     ensures items { out.new.items ≡ out.old.items ++ spec.position.spell position }
@@ -163,7 +163,7 @@ fn put_position(out: &mut Frame, position: Position)
 }
 
 /// Writes what was seen.
-#[tactic(auto, unfolding(crate::specs::Layouts::seen_what))]
+#[tactic(auto, unfolding(definitions::specs::FrameLayouts::seen_what))]
 fn put_seen(out: &mut Frame, what: SeenWhat)
     requires { length out.old.items + 1 ≤ 128 }
     ensures items { out.new.items ≡ out.old.items ++ spec.seen_what.spell what }
@@ -177,7 +177,7 @@ fn put_seen(out: &mut Frame, what: SeenWhat)
 }
 
 /// Writes an offset in mm.
-#[tactic(auto, unfolding(crate::specs::Layouts::offset, crate::specs::Layouts::any))]
+#[tactic(auto, unfolding(definitions::specs::FrameLayouts::offset, definitions::specs::FrameLayouts::any))]
 fn put_offset(out: &mut Frame, offset: i32)
     requires { length out.old.items + 4 ≤ 128 }
     ensures items { out.new.items ≡ out.old.items ++ spec.offset.spell offset }
@@ -197,7 +197,7 @@ fn step_number(step: DirSeg) -> u16
 }
 
 /// Writes a step.
-#[tactic(auto, unfolding(crate::specs::Layouts::step))]
+#[tactic(auto, unfolding(definitions::specs::FrameLayouts::step))]
 fn put_step(out: &mut Frame, step: DirSeg)
     requires { length out.old.items + 2 ≤ 128 }
     ensures items { out.new.items ≡ out.old.items ++ spec.step.spell step }
@@ -207,7 +207,7 @@ fn put_step(out: &mut Frame, step: DirSeg)
 }
 
 /// Writes 1 to 24 steps.
-#[tactic(auto, unfolding(crate::specs::Layouts::steps))]
+#[tactic(auto, unfolding(definitions::specs::FrameLayouts::steps))]
 fn put_steps(out: &mut Frame, steps: &ArrayVec<DirSeg, 24>)
     requires { length out.old.items + 49 ≤ 128 }
     ensures items { out.new.items ≡ out.old.items ++ spec.steps.spell steps.now }
@@ -220,7 +220,7 @@ fn put_steps(out: &mut Frame, steps: &ArrayVec<DirSeg, 24>)
 }
 
 /// Writes a path.
-#[tactic(auto, unfolding(crate::specs::Layouts::path))]
+#[tactic(auto, unfolding(definitions::specs::FrameLayouts::path))]
 fn put_path(out: &mut Frame, path: &Path)
     requires { length out.old.items + 57 ≤ 128 }
     ensures items { out.new.items ≡ out.old.items ++ spec.path.spell path.now }
@@ -232,7 +232,7 @@ fn put_path(out: &mut Frame, path: &Path)
 }
 
 /// Writes what is declared of a train: its length, error and speed, and its flags.
-#[tactic(auto, unfolding(crate::specs::Layouts::facts))]
+#[tactic(auto, unfolding(definitions::specs::FrameLayouts::facts))]
 fn put_facts(out: &mut Frame, length: u32, error: u32, speed: u16, equipped: bool)
     requires { spec.size out.old + 11 ≤ 128 }
     ensures items { out.new.items ≡ out.old.items ++ spec.facts.spell (length, (error, (speed, equipped))) }
@@ -245,7 +245,7 @@ fn put_facts(out: &mut Frame, length: u32, error: u32, speed: u16, equipped: boo
 }
 
 /// Writes an order.
-#[tactic(auto, unfolding(crate::specs::Layouts::order, crate::specs::Layouts::order_fields, crate::specs::Layouts::id))]
+#[tactic(auto, unfolding(definitions::specs::FrameLayouts::order, definitions::specs::FrameLayouts::order_fields, definitions::specs::FrameLayouts::id))]
 fn put_order(out: &mut Frame, order: Order)
     requires { length out.old.items + 9 ≤ 128 }
     ensures { out.new.items ≡ out.old.items ++ spec.order.spell order }
@@ -298,7 +298,7 @@ fn head(version: u8, kind: u8) -> Frame
 }
 
 /// Writes the fields of a report.
-#[tactic(auto, unfolding(crate::specs::Layouts::report))]
+#[tactic(auto, unfolding(definitions::specs::FrameLayouts::report))]
 fn put_report(out: &mut Frame, train: TrainId, time: u64, mark: u32, offset: i32, integrity: bool)
     requires { length out.old.items + 19 ≤ 128 }
     ensures items { out.new.items ≡ out.old.items ++ spec.report.spell (train, (time, (mark, (offset, integrity)))) }
@@ -321,7 +321,7 @@ fn report(train: TrainId, time: u64, mark: u32, offset: i32, integrity: bool) ->
 }
 
 /// The frame of what a section shows.
-#[tactic(auto, unfolding(crate::specs::Layouts::reading))]
+#[tactic(auto, unfolding(definitions::specs::FrameLayouts::reading))]
 fn reading(section: SectionId, time: u64, free: bool) -> Frame
     ensures { result.items ≡ 1 ∷ 2 ∷ spec.reading.spell (section, (time, free)) }
 {
@@ -333,7 +333,7 @@ fn reading(section: SectionId, time: u64, free: bool) -> Frame
 }
 
 /// The frame of the time.
-#[tactic(auto, unfolding(crate::specs::Layouts::time_told))]
+#[tactic(auto, unfolding(definitions::specs::FrameLayouts::time_told))]
 fn time_told(time: u64, train: TrainId) -> Frame
     ensures { result.items ≡ 1 ∷ 3 ∷ spec.time_told.spell (time, train) }
 {
@@ -344,7 +344,7 @@ fn time_told(time: u64, train: TrainId) -> Frame
 }
 
 /// The frame of a request for entry.
-#[tactic(auto, unfolding(crate::specs::Layouts::entry_ask))]
+#[tactic(auto, unfolding(definitions::specs::FrameLayouts::entry_ask))]
 fn entry_ask(train: TrainId, time: u64, facts: (u32, u32, u16, bool), step: DirSeg) -> Frame
     ensures { result.items ≡ 1 ∷ 4 ∷ spec.entry_ask.spell (train, (time, ((facts.0, (facts.1, (facts.2, facts.3))), step))) }
 {
@@ -357,7 +357,7 @@ fn entry_ask(train: TrainId, time: u64, facts: (u32, u32, u16, bool), step: DirS
 }
 
 /// The frame of an ask.
-#[tactic(auto, unfolding(crate::specs::Layouts::ask))]
+#[tactic(auto, unfolding(definitions::specs::FrameLayouts::ask))]
 fn ask(train: TrainId, time: u64, steps: &ArrayVec<DirSeg, 24>, to: u32) -> Frame
     ensures { result.items ≡ 1 ∷ 5 ∷ spec.ask.spell (train, (time, (steps.now, to))) }
 {
@@ -370,7 +370,7 @@ fn ask(train: TrainId, time: u64, steps: &ArrayVec<DirSeg, 24>, to: u32) -> Fram
 }
 
 /// The frame of an answer.
-#[tactic(auto, unfolding(crate::specs::Layouts::answer))]
+#[tactic(auto, unfolding(definitions::specs::FrameLayouts::answer))]
 fn answer(train: TrainId, time: u64, number: u32, taken: bool) -> Frame
     ensures { result.items ≡ 1 ∷ 6 ∷ spec.answer.spell (train, (time, (number, taken))) }
 {
@@ -383,7 +383,7 @@ fn answer(train: TrainId, time: u64, number: u32, taken: bool) -> Frame
 }
 
 /// The frame of that a train has left.
-#[tactic(auto, unfolding(crate::specs::Layouts::gone))]
+#[tactic(auto, unfolding(definitions::specs::FrameLayouts::gone))]
 fn gone(train: TrainId, time: u64) -> Frame
     ensures { result.items ≡ 1 ∷ 7 ∷ spec.gone.spell (train, time) }
 {
@@ -394,7 +394,7 @@ fn gone(train: TrainId, time: u64) -> Frame
 }
 
 /// The frame of a switch's echo.
-#[tactic(auto, unfolding(crate::specs::Layouts::echo))]
+#[tactic(auto, unfolding(definitions::specs::FrameLayouts::echo))]
 fn echo(switch: SwitchId, time: u64, number: u32, position: Position) -> Frame
     ensures { result.items ≡ 1 ∷ 8 ∷ spec.echo.spell (switch, (time, (number, position))) }
 {
@@ -407,7 +407,7 @@ fn echo(switch: SwitchId, time: u64, number: u32, position: Position) -> Frame
 }
 
 /// The frame of an order.
-#[tactic(auto, unfolding(crate::specs::Layouts::order_told))]
+#[tactic(auto, unfolding(definitions::specs::FrameLayouts::order_told))]
 fn order_told(time: u64, order: Order) -> Frame
     ensures { result.items ≡ 1 ∷ 9 ∷ spec.order_told.spell (time, order) }
 {
@@ -418,7 +418,7 @@ fn order_told(time: u64, order: Order) -> Frame
 }
 
 /// The frame of an authority.
-#[tactic(auto, unfolding(crate::specs::Layouts::auth))]
+#[tactic(auto, unfolding(definitions::specs::FrameLayouts::auth))]
 fn auth(train: TrainId, number: u32, mark: u32, path: &Path) -> Frame
     ensures { result.items ≡ 1 ∷ 10 ∷ spec.auth.spell (train, (number, (mark, path.now))) }
 {
@@ -431,7 +431,7 @@ fn auth(train: TrainId, number: u32, mark: u32, path: &Path) -> Frame
 }
 
 /// The frame of a command to a switch.
-#[tactic(auto, unfolding(crate::specs::Layouts::switch_cmd))]
+#[tactic(auto, unfolding(definitions::specs::FrameLayouts::switch_cmd))]
 fn switch_cmd(switch: SwitchId, number: u32, position: Position) -> Frame
     ensures { result.items ≡ 1 ∷ 11 ∷ spec.switch_cmd.spell (switch, (number, position)) }
 {
@@ -443,7 +443,7 @@ fn switch_cmd(switch: SwitchId, number: u32, position: Position) -> Frame
 }
 
 /// The frame of an ask for a path of another zone.
-#[tactic(auto, unfolding(crate::specs::Layouts::lend_ask))]
+#[tactic(auto, unfolding(definitions::specs::FrameLayouts::lend_ask))]
 fn lend_ask(train: TrainId, ask: u32, steps: &ArrayVec<DirSeg, 24>, to: u32) -> Frame
     ensures { result.items ≡ 1 ∷ 12 ∷ spec.lend_ask.spell (train, (ask, (steps.now, to))) }
 {
@@ -456,7 +456,7 @@ fn lend_ask(train: TrainId, ask: u32, steps: &ArrayVec<DirSeg, 24>, to: u32) -> 
 }
 
 /// The frame of a path that is lent.
-#[tactic(auto, unfolding(crate::specs::Layouts::lend))]
+#[tactic(auto, unfolding(definitions::specs::FrameLayouts::lend))]
 fn lend(train: TrainId, ask: u32, lend: u32, path: &Path) -> Frame
     ensures { result.items ≡ 1 ∷ 13 ∷ spec.lend.spell (train, (ask, (lend, path.now))) }
 {
@@ -469,7 +469,7 @@ fn lend(train: TrainId, ask: u32, lend: u32, path: &Path) -> Frame
 }
 
 /// The frame of what is kept of a lent path.
-#[tactic(auto, unfolding(crate::specs::Layouts::returned))]
+#[tactic(auto, unfolding(definitions::specs::FrameLayouts::returned))]
 fn returned(train: TrainId, lend: u32, kept: &Option<Path>) -> Frame
     ensures { result.items ≡ 1 ∷ 14 ∷ spec.returned.spell (train, (lend, kept.now)) }
 {
@@ -481,7 +481,7 @@ fn returned(train: TrainId, lend: u32, kept: &Option<Path>) -> Frame
 }
 
 /// The frame of what was seen.
-#[tactic(auto, unfolding(crate::specs::Layouts::seen_told))]
+#[tactic(auto, unfolding(definitions::specs::FrameLayouts::seen_told))]
 fn seen_told(train: TrainId, what: SeenWhat, number: u32) -> Frame
     ensures { result.items ≡ 1 ∷ 16 ∷ spec.seen_told.spell (train, (what, number)) }
 {
@@ -493,7 +493,7 @@ fn seen_told(train: TrainId, what: SeenWhat, number: u32) -> Frame
 }
 
 /// Writes the last number issued and the greatest answered.
-#[tactic(auto, unfolding(crate::specs::Layouts::counts, crate::specs::Layouts::ordinal))]
+#[tactic(auto, unfolding(definitions::specs::FrameLayouts::counts, definitions::specs::FrameLayouts::ordinal))]
 fn put_counts(out: &mut Frame, last: u32, answered: u32)
     requires { length out.old.items + 8 ≤ 128 }
     ensures items { out.new.items ≡ out.old.items ++ spec.counts.spell (last, answered) }
@@ -504,7 +504,7 @@ fn put_counts(out: &mut Frame, last: u32, answered: u32)
 }
 
 /// Writes the least and the greatest front, in mm.
-#[tactic(auto, unfolding(crate::specs::Layouts::fronts))]
+#[tactic(auto, unfolding(definitions::specs::FrameLayouts::fronts))]
 fn put_fronts(out: &mut Frame, lo: u32, hi: u32)
     requires { length out.old.items + 8 ≤ 128 }
     ensures items { out.new.items ≡ out.old.items ++ spec.fronts.spell (lo, hi) }
@@ -515,7 +515,7 @@ fn put_fronts(out: &mut Frame, lo: u32, hi: u32)
 }
 
 /// Writes the numbers of the last ask and lend, and the mark.
-#[tactic(auto, unfolding(crate::specs::Layouts::numbers))]
+#[tactic(auto, unfolding(definitions::specs::FrameLayouts::numbers))]
 fn put_numbers(out: &mut Frame, ask: u32, lend: u32, mark: u32)
     requires { length out.old.items + 12 ≤ 128 }
     ensures items { out.new.items ≡ out.old.items ++ spec.numbers.spell (ask, (lend, mark)) }
@@ -527,7 +527,7 @@ fn put_numbers(out: &mut Frame, ask: u32, lend: u32, mark: u32)
 }
 
 /// The frame of a hand-over of control.
-#[tactic(auto, unfolding(crate::specs::Layouts::hand, crate::specs::Layouts::hand_rest))]
+#[tactic(auto, unfolding(definitions::specs::FrameLayouts::hand, definitions::specs::FrameLayouts::hand_rest))]
 fn hand(h: &Hand) -> Frame
     ensures { result.items ≡ 1 ∷ 15 ∷ spec.hand.spell h.now }
 {
@@ -544,7 +544,7 @@ fn hand(h: &Hand) -> Frame
 }
 
 /// The frame of a message, the one that decodes to it. It takes no memory.
-#[tactic(auto, unfolding(crate::specs::Frames::frame_of))]
+#[tactic(auto, unfolding(definitions::specs::Frames::frame_of))]
 pub fn frame(m: &Msg) -> Frame
     ensures { result.items ≡ frame_of m.now }
 {

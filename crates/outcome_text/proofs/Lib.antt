@@ -1,2 +1,2 @@
-pub mod Part_texts
-pub mod Plain
+pub mod Parts_first
+pub mod Says_at

@@ -106,6 +106,7 @@ pub fn write_ending<K: Sink>(ending: &Ending, sink: &mut K) -> Result<(), WriteF
         Ending::Input => write_text(sink, b"limit input 67108864\n"),
         Ending::Trains => write_text(sink, b"limit trains 256\n"),
         Ending::Events => write_text(sink, b"limit events 200000\n"),
+        Ending::Messages => write_text(sink, b"limit messages 998000\n"),
         Ending::Unbuilt(n) => write_line(b"unbuilt", &[Number(n)], b"\n", sink),
     }
 }

@@ -130,6 +130,7 @@ const ENDINGS: &[Ending] = &[
     Ending::Input,
     Ending::Trains,
     Ending::Events,
+    Ending::Messages,
     Ending::Unbuilt(5),
 ];
 
@@ -143,6 +144,7 @@ premise 4 P16
 limit input 67108864
 limit trains 256
 limit events 200000
+limit messages 998000
 unbuilt 5
 ";
 

@@ -5,7 +5,7 @@ use Rattle.std.proofs.lemmas.Bool.{eqb-true}
 use Rattle.std.specs.Prelude.{nat_eq, nat_lt}
 use Rattle.std.specs.List.{list_any, list_all}
 use Rattle.list_laws.proofs.Placed.{placed}
-use Rattle.list_laws.proofs.Tests.{by_test}
+use Rattle.list_laws.proofs.By_test.{by_test}
 use Rattle.track_points.specs.declared.ids.TrainId.{TrainId}
 use Rattle.definitions.specs.Authority.{least_of}
 use Rattle.plain_state.specs.declared.Controlled.{Controlled}

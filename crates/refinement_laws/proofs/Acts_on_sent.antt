@@ -5,7 +5,7 @@ use Rattle.std.proofs.lemmas.Bool.{eqb-true, and_parts}
 use Rattle.std.proofs.lemmas.List.{length-take-le, length-append}
 use Rattle.std.specs.Prelude.{nat_eq, nat_le, nat_lt, is_some, slice_get}
 use Rattle.std.specs.List.{list_all}
-use Rattle.list_laws.proofs.Tests.{eq_self, by_test}
+use Rattle.list_laws.proofs.By_test.{eq_self, by_test}
 use Rattle.track_points.specs.declared.ids.Dir.{Dir}
 use Rattle.track_points.specs.declared.ids.Dir.TheVariants.{Up, Down}
 use Rattle.track_points.specs.declared.ids.DirSeg.{DirSeg}
@@ -30,9 +30,9 @@ use Rattle.plain_state.specs.Zone.{find_controlled, fresh_number, fresh_mark, fr
 use Rattle.definitions.specs.Zones.{zone_id}
 use Rattle.plain_state.specs.Plain.{Plain}
 use Rattle.plain_state.specs.Refinement.{kept_authority, head_of, world_of, zone_train_of, ZoneRefines, Refines}
-use Rattle.event_laws.proofs.Notions.{number_most}
-use Rattle.event_laws.proofs.Issued.{issued_all}
-use Rattle.way_laws.proofs.Lines.{portal_on_line}
+use Rattle.event_laws.proofs.Entered_same.{number_most}
+use Rattle.event_laws.proofs.Issued_all.{issued_all}
+use Rattle.way_laws.proofs.Line_builds.{portal_on_line}
 use Rattle.invariant_laws.proofs.One_route.{numbered_controls}
 use Rattle.way_laws.proofs.Between_points.{between_mark, between_steps}
 use Rattle.invariant_laws.proofs.Invariant.{path_fits, AuthorityIs, FirstIs, AuthIs, AuthTrue, RequestTrue, Invariant}

@@ -4,7 +4,7 @@ use Rattle.std.proofs.lemmas.Bool.Decides.{nat_tests}
 use Rattle.std.proofs.lemmas.Bool.{eqb-true}
 use Rattle.std.proofs.Math.Bool.{and-false}
 use Rattle.std.specs.Prelude.{nat_eq, is_some}
-use Rattle.list_laws.proofs.Tests.{by_test}
+use Rattle.list_laws.proofs.By_test.{by_test}
 use Rattle.track_points.specs.declared.ids.TrainId.{TrainId}
 use Rattle.definitions.specs.declared.message.Msg.{Msg}
 use Rattle.definitions.specs.declared.message.Msg.TheVariants as msg
@@ -32,7 +32,7 @@ use Rattle.plain_state.proofs.Found_changed.{mapped, found_changed, found_other,
 use Rattle.refinement_laws.proofs.Way_now.{Grown, way_now, last_now, known_now, full_now, holder_now, reach_now}
 use Rattle.refinement_laws.proofs.Facts_is.{way_is_known}
 use Rattle.refinement_laws.proofs.Zone_kept.{kept_train}
-use Rattle.event_laws.proofs.Issued.{NoAuth}
+use Rattle.event_laws.proofs.Issued_all.{NoAuth}
 use Rattle.refinement_laws.proofs.World_controls.{end_same}
 use Rattle.refinement_laws.proofs.Zone_idle.{no_train}
 use Rattle.refinement_laws.proofs.Zone_moves.{zone_made, zone_heads, ZoneMoves}

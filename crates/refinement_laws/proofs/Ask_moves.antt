@@ -6,7 +6,7 @@ use Rattle.std.proofs.lemmas.List.{length-append, length-take}
 use Rattle.std.proofs.Math.Seq.{drop-append_seam}
 use Rattle.std.proofs.Math.Bool.{and-false}
 use Rattle.std.specs.Prelude.{nat_eq, nat_lt}
-use Rattle.list_laws.proofs.Tests.{by_test}
+use Rattle.list_laws.proofs.By_test.{by_test}
 use Rattle.arrayvec.specs.ArrayVec.{ArrayVec}
 use Rattle.track_points.specs.declared.ids.DirSeg.{DirSeg}
 use Rattle.track_points.specs.declared.ids.TrainId.{TrainId}
@@ -29,7 +29,7 @@ use Rattle.plain_state.specs.Zone.{find_controlled, change_controlled, lengthene
 use Rattle.definitions.specs.Zones.{zone_id}
 use Rattle.plain_state.specs.Plain.{Plain}
 use Rattle.plain_state.specs.Refinement.{zone_train, Refines}
-use Rattle.event_laws.proofs.Issued.{AllIn, AllIssued, NoAuth}
+use Rattle.event_laws.proofs.Issued_all.{AllIn, AllIssued, NoAuth}
 use Rattle.way_laws.proofs.Reach_granted.{reach_granted}
 use Rattle.way_laws.proofs.Grown_end.{grown_end}
 use Rattle.way_laws.proofs.Between_points.{between_some, between_end, between_within}

@@ -1,19 +1,22 @@
--- What a delivery stands for, by the links of the plain state: the takes of what its one sender sent and nobody took.
-use Rattle.std.proofs.Common.{◌≡◌, ℕ, zero, suc, ◌+◌, ◌-◌, ◌<◌, ◌≤◌, List, [], ◌∷◌, ◌++◌, length, filter, flat_map, Bool, true, false, not, refl, sym, ◌∙◌, ap, subst, arith}
+-- What a delivery stands for, by the links of the plain state: the takes of what its one sender sent, nobody took and no event
+-- named lost.
+use Rattle.std.proofs.Common.{◌≡◌, ℕ, zero, suc, ◌+◌, ◌-◌, ◌<◌, ◌≤◌, List, [], ◌∷◌, ◌++◌, length, filter, flat_map, if◌then◌else◌, Bool, true, false, ◌||◌, not, refl, sym, ◌∙◌, ap, subst, arith}
 use Rattle.std.proofs.lemmas.Bool.Decides.{nat_tests}
 use Rattle.std.proofs.lemmas.Bool.{and_right, or_right}
 use Rattle.std.proofs.Math.Path.{fun_ext}
 use Rattle.std.specs.Prelude.{nat_eq}
-use Rattle.list_laws.proofs.Tests.{by_test}
+use Rattle.list_laws.proofs.By_test.{by_test}
 use Rattle.definitions.specs.declared.event.Event.{Event}
+use Rattle.definitions.specs.declared.event.Event.TheVariants.{Take}
 use Rattle.definitions.specs.declared.message.Msg.{Msg}
 use Rattle.definitions.specs.Track.{Line, is_actor, has_zone}
-use Rattle.definitions.specs.Story.{Story}
-use Rattle.definitions.specs.Steps.{taken_most, takes_from, due, sends_to, actors, deliveries}
+use Rattle.definitions.specs.Story.{Story, sent, ever}
+use Rattle.definitions.specs.Steps.{effects, taken_most, takes_from, loses, is_lost, takes_lost, due, sends_to, actors, deliveries}
 use Rattle.definitions.specs.Safe.{IsLineOfOneZone}
 use Rattle.definitions.specs.Zones.{zone_id}
-use Rattle.plain_state.specs.Plain.{Plain}
+use Rattle.plain_state.specs.Plain.{Plain, is_link, takes_but}
 use Rattle.plain_state.specs.Refinement.{Refines}
+use Rattle.event_laws.proofs.By_does.{effect_event}
 use Rattle.refinement_laws.proofs.The_zone.{zone_positive, zone_most, zone_declared_there, link_to_zone, link_to_world}
 use Rattle.invariant_laws.proofs.Zone_only.{actor_zone}
 
@@ -44,6 +47,36 @@ actors_are = refl
 
 one_actor : (k : ℕ) → k ≤ 16 → filter (λ (x : ℕ). nat_eq x k) actors ≡ k ∷ []
 one_actor k h = ap (λ (xs : List ℕ). filter (λ (x : ℕ). nat_eq x k) xs) actors_are ∙ range_one k 0 17 (omega arith) (omega (arith, h))
+
+-- What is lost is passed over.
+
+but_lost : (lost : ℕ → Bool) (to from : ℕ) (s : Story) → ((n : ℕ) → lost n ≡ is_lost from to n s) → (number n : ℕ) → filter (λ e. not (takes_lost s e)) (takes_from to from number n) ≡ takes_but lost to from number n
+unfolding takes_from takes_but
+but_lost lost to from s agrees number zero = refl
+but_lost lost to from s agrees number (suc n) =
+    let i = but_lost lost to from s agrees (number + 1) n in
+    by_test (lost number)
+    (λ y. let there : is_lost from to number s ≡ true = sym (agrees number) ∙ y in rw (y, there) i)
+    (λ o. let there : is_lost from to number s ≡ false = sym (agrees number) ∙ o in rw (o, there) (ap (λ (es : List Event). Take to from number ∷ es) i))
+
+-- one take more, unless its message is lost
+pub but_more : (lost : ℕ → Bool) (to from number n : ℕ) → takes_but lost to from number (suc n) ≡ takes_but lost to from number n ++ (if lost (number + n) then [] else Take to from (number + n) ∷ [])
+unfolding takes_but
+but_more lost to from number zero =
+    let same : number ≡ number + 0 = omega arith in
+    ap (λ (k : ℕ). if lost k then [] else Take to from k ∷ []) same
+but_more lost to from number (suc n) =
+    let i = but_more lost to from (number + 1) n in
+    let same : number + 1 + n ≡ number + suc n = omega arith in
+    let j = i ∙ ap (λ (k : ℕ). takes_but lost to from (number + 1) n ++ (if lost k then [] else Take to from k ∷ [])) same in
+    by_test (lost number)
+    (λ y. rw y j)
+    (λ o. rw o (ap (λ (es : List Event). Take to from number ∷ es) j))
+
+-- what is lost after an event
+pub lost_next : (line : Line) (s : Story) (e : Event) (from to n : ℕ) → is_lost from to n (effects line s e ∷ s) ≡ (loses from to n e || is_lost from to n s)
+unfolding ever
+lost_next line s e from to n = ap (λ (x : Event). loses from to n x || is_lost from to n s) (effect_event line s e)
 
 module _ (line : Line) (one : IsLineOfOneZone line) where
   to_zone : (from : ℕ) → sends_to line (zone_id line) from ≡ nat_eq from 0
@@ -80,19 +113,28 @@ module _ (line : Line) (one : IsLineOfOneZone line) where
       none_more [] = refl
       none_more (x ∷ xs) = ap (λ (ys : List Event). x ∷ ys) (none_more xs)
 
-  -- to the zone: what the world sent; to the world: what the zone sent
-  pub deliveries_zone : (s : Story) (p : Plain) → Refines line s p
-      → deliveries line s (zone_id line) ≡ takes_from (zone_id line) 0 (taken_most (zone_id line) 0 s + 1) (length (p.links 0 (zone_id line)) - taken_most (zone_id line) 0 s)
-  deliveries_zone s p k =
-      ap (λ (f : ℕ → Bool). flat_map (due (zone_id line) s) (filter f actors)) (fun_ext to_zone)
-      ∙ (ap (λ (xs : List ℕ). flat_map (due (zone_id line) s) xs) (one_actor 0 (omega arith))
-      ∙ (behind_one s (zone_id line) 0
-      ∙ ap (λ (ms : List Msg). takes_from (zone_id line) 0 (taken_most (zone_id line) 0 s + 1) (length ms - taken_most (zone_id line) 0 s)) (sym (k.links 0 (zone_id line) (link_to_zone line one)))))
+  module _ (s : Story) (p : Plain) (k : Refines line s p) where
+    -- the takes of what a single sender sent, but of what is lost
+    alone : (lost : ℕ → Bool) (to from : ℕ) → is_link line to from ≡ true → ((n : ℕ) → lost n ≡ is_lost from to n s) → flat_map (due to s) (filter (sends_to line to) actors) ≡ due to s from
+        → deliveries line s to ≡ takes_but lost to from (taken_most to from s + 1) (length (p.links from to) - taken_most to from s)
+    alone lost to from link agrees is =
+        ap (λ (xs : List Event). filter (λ e. not (takes_lost s e)) xs) is
+        ∙ (but_lost lost to from s agrees (taken_most to from s + 1) (length (sent from to s) - taken_most to from s)
+        ∙ ap (λ (ms : List Msg). takes_but lost to from (taken_most to from s + 1) (length ms - taken_most to from s)) (sym (k.links from to link)))
 
-  pub deliveries_world : (s : Story) (p : Plain) → Refines line s p
-      → deliveries line s 0 ≡ takes_from 0 (zone_id line) (taken_most 0 (zone_id line) s + 1) (length (p.links (zone_id line) 0) - taken_most 0 (zone_id line) s)
-  deliveries_world s p k =
-      ap (λ (f : ℕ → Bool). flat_map (due 0 s) (filter f actors)) (fun_ext to_world)
-      ∙ (ap (λ (xs : List ℕ). flat_map (due 0 s) xs) (one_actor (zone_id line) (zone_most line one))
-      ∙ (behind_one s 0 (zone_id line)
-      ∙ ap (λ (ms : List Msg). takes_from 0 (zone_id line) (taken_most 0 (zone_id line) s + 1) (length ms - taken_most 0 (zone_id line) s)) (sym (k.links (zone_id line) 0 (link_to_world line one)))))
+    -- to the zone: what the world sent; to the world: what the zone sent
+    pub deliveries_zone : (lost : ℕ → Bool) → ((n : ℕ) → lost n ≡ is_lost 0 (zone_id line) n s)
+        → deliveries line s (zone_id line) ≡ takes_but lost (zone_id line) 0 (taken_most (zone_id line) 0 s + 1) (length (p.links 0 (zone_id line)) - taken_most (zone_id line) 0 s)
+    deliveries_zone lost agrees =
+        alone lost (zone_id line) 0 (link_to_zone line one) agrees
+        (ap (λ (f : ℕ → Bool). flat_map (due (zone_id line) s) (filter f actors)) (fun_ext to_zone)
+        ∙ (ap (λ (xs : List ℕ). flat_map (due (zone_id line) s) xs) (one_actor 0 (omega arith))
+        ∙ behind_one s (zone_id line) 0))
+
+    pub deliveries_world : (lost : ℕ → Bool) → ((n : ℕ) → lost n ≡ is_lost (zone_id line) 0 n s)
+        → deliveries line s 0 ≡ takes_but lost 0 (zone_id line) (taken_most 0 (zone_id line) s + 1) (length (p.links (zone_id line) 0) - taken_most 0 (zone_id line) s)
+    deliveries_world lost agrees =
+        alone lost 0 (zone_id line) (link_to_world line one) agrees
+        (ap (λ (f : ℕ → Bool). flat_map (due 0 s) (filter f actors)) (fun_ext to_world)
+        ∙ (ap (λ (xs : List ℕ). flat_map (due 0 s) xs) (one_actor (zone_id line) (zone_most line one))
+        ∙ behind_one s 0 (zone_id line)))

@@ -5,7 +5,7 @@ use Rattle.std.proofs.lemmas.Bool.{eqb-true}
 use Rattle.std.proofs.Math.Bool.{and-false}
 use Rattle.std.specs.Prelude.{nat_eq, nat_le, nat_lt}
 use Rattle.list_laws.proofs.Placed.{placed}
-use Rattle.list_laws.proofs.Tests.{by_test}
+use Rattle.list_laws.proofs.By_test.{by_test}
 use Rattle.track_points.specs.declared.ids.DirSeg.{DirSeg}
 use Rattle.track_points.specs.declared.ids.TrainId.{TrainId}
 use Rattle.track_points.specs.Points.{Lengths, total, place_of_last, steps_to, offset_to}
@@ -26,7 +26,7 @@ use Rattle.plain_state.specs.Zone.{find_controlled, placed_train, train_at_entry
 use Rattle.definitions.specs.Zones.{zone_id}
 use Rattle.plain_state.specs.Plain.{Plain}
 use Rattle.plain_state.specs.Refinement.{zone_train, Refines}
-use Rattle.event_laws.proofs.Issued.{AllIn, AllIssued, NoAuth}
+use Rattle.event_laws.proofs.Issued_all.{AllIn, AllIssued, NoAuth}
 use Rattle.event_laws.proofs.Controls_same.{controls_knows, controls_same, controls_now, known_granted, now_acted}
 use Rattle.invariant_laws.proofs.Invariant.{end_read, AuthIs, Invariant}
 use Rattle.invariant_laws.proofs.One_route.{last_end}

@@ -2,7 +2,7 @@
 use Rattle.std.proofs.Common.{◌≡◌, ℕ, ◌+◌, ◌-◌, ◌<◌, ◌≤◌, List, take, Some, true, sym, ◌∙◌, ap, subst, arith}
 use Rattle.track_points.specs.declared.ids.DirSeg.{DirSeg}
 use Rattle.track_points.specs.Points.{Layout, Point, total, has_between, steps_to}
-use Rattle.track_points.proofs.Between.{points_within}
+use Rattle.track_points.proofs.Points_found.{points_within}
 use Rattle.definitions.specs.Track.{Line, seg_len, layout}
 use Rattle.definitions.specs.Rules.{is_line}
 use Rattle.definitions.specs.Ways.{way_between}

@@ -5,7 +5,7 @@ use Rattle.std.proofs.lemmas.List.{length-take-le, length-append}
 use Rattle.std.specs.Prelude.{nat_le}
 use Rattle.std.specs.List.{list_all}
 use Rattle.std.proofs.lemmas.Bool.{and_parts}
-use Rattle.list_laws.proofs.Tests.{by_test}
+use Rattle.list_laws.proofs.By_test.{by_test}
 use Rattle.track_points.specs.declared.ids.DirSeg.{DirSeg}
 use Rattle.track_points.specs.Points.{Lengths, total, place_of_last, steps_to, offset_to}
 use Rattle.definitions.specs.Track.{Line, seg_len, next_step, track_from, track_to, last_step, led}
@@ -16,7 +16,7 @@ use Rattle.plain_state.specs.declared.Head.{Head}
 use Rattle.plain_state.specs.World.{moved_on}
 use Rattle.way_laws.proofs.Cut_front.{cut_first, cut_some, cut_end, total_append, last_behind, last_after, offset_above}
 use Rattle.way_laws.proofs.Cut_cut.{cut_again, before_last}
-use Rattle.way_laws.proofs.Track_front.{is_long, all_long, long_steps, long_total, track_some}
+use Rattle.way_laws.proofs.Track_front.{last_on_line, is_long, all_long, long_steps, long_total, track_some}
 use Rattle.way_laws.proofs.Journey_cut.{journey_any}
 
 -- where a head is at a place of some steps, the last of which it is on
@@ -69,12 +69,6 @@ split_last (st ∷ next ∷ xs) h =
     let two : length (st ∷ next ∷ xs) - 1 ≡ suc (length xs) = omega arith in
     let i = split_last (next ∷ xs) (omega arith) ∙ ap (λ (n : ℕ). take n (next ∷ xs) ++ last_step (next ∷ xs) ∷ []) one in
     rw two (ap (λ (ys : List DirSeg). st ∷ ys) i)
-
-last_on_line : (line : Line) (xs : List DirSeg) → 0 < length xs → list_all (on_line line) xs ≡ true → on_line line (last_step xs) ≡ true
-unfolding last_step
-last_on_line line [] h own = absurd (omega arith)
-last_on_line line (st ∷ []) h own = (and_parts (on_line line st) true own).0
-last_on_line line (st ∷ next ∷ xs) h own = last_on_line line (next ∷ xs) (omega arith) (and_parts (on_line line st) (list_all (on_line line) (next ∷ xs)) own).1
 
 led_some : (line : Line) (steps : List DirSeg) (p : ℕ) → 0 < length steps → led (seg_len line) line steps p ≡ steps_to (seg_len line) (steps ++ track_from line (next_step line (last_step steps)) (p + 1)) p
 led_some line [] p h = absurd (omega arith)

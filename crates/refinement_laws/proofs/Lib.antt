@@ -32,3 +32,4 @@ pub mod Refines_step
 pub mod Deliveries_zone
 pub mod Envelope_now
 pub mod Refines_next
+pub mod Delivery_ends

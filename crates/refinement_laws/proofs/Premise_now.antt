@@ -1,16 +1,18 @@
 -- An event is built, within the limit on trains and keeps its premises by the plain state exactly where it does by the story.
 use Rattle.std.proofs.Common.{◌≡◌, ℕ, ◌+◌, ◌-◌, ◌≤◌, List, length, Option, Some, None, Bool, true, false, ◌&&◌, ◌||◌, refl, sym, ◌∙◌, ap, arith, not, if◌then◌else◌}
 use Rattle.std.proofs.lemmas.Bool.Decides.{nat_tests}
+use Rattle.std.proofs.Math.Bool.{and-true}
 use Rattle.std.proofs.Math.Path.{fun_ext}
-use Rattle.std.specs.Prelude.{ℤ, nat_eq, nat_le, nat_lt, is_some}
+use Rattle.std.specs.Prelude.{ℤ, pos, ◌-ℤ◌, nat_eq, nat_le, nat_lt, is_some}
 use Rattle.std.specs.List.{list_all}
-use Rattle.list_laws.proofs.Tests.{by_test}
+use Rattle.std.specs.Int.Signed.{le_z}
+use Rattle.list_laws.proofs.By_test.{by_test}
 use Rattle.track_points.specs.declared.ids.DirSeg.{DirSeg}
 use Rattle.track_points.specs.declared.ids.TrainId.{TrainId}
 use Rattle.track_points.specs.Points.{step_eq}
 use Rattle.envelope.specs.Fronts.{farthest_move}
 use Rattle.definitions.specs.declared.event.Event.{Event}
-use Rattle.definitions.specs.declared.event.Event.TheVariants.{Train, Entry, Enter, Ask, Step, Report, Time, Take}
+use Rattle.definitions.specs.declared.event.Event.TheVariants.{Train, Entry, Enter, Ask, Step, Report, Time, Take, Noise}
 use Rattle.definitions.specs.declared.message.Msg.{Msg}
 use Rattle.definitions.specs.Track.{Line, ranged, has_zone, begins_at_portal, last_step}
 use Rattle.definitions.specs.Numbers.{least}
@@ -22,7 +24,7 @@ use Rattle.definitions.specs.Safe.{IsLineOfOneZone}
 use Rattle.plain_state.specs.declared.Head.{Head}
 use Rattle.plain_state.specs.World.{find_train, authority_found, error_found}
 use Rattle.plain_state.specs.Plain.{Plain}
-use Rattle.plain_state.specs.Admits.{is_known, plain_built, plain_too_many, reports_head, world_reports, can_move_found, world_moves, may_move_found, world_stops, world_enters, plain_takes, plain_premise}
+use Rattle.plain_state.specs.Admits.{is_known, plain_built, plain_too_many, reports_head, world_reports, can_move_found, world_moves, may_move_found, world_stops, world_enters, hears_noise, plain_takes, plain_premise}
 use Rattle.plain_state.specs.Refinement.{head_of, Refines}
 use Rattle.invariant_laws.proofs.Invariant.{Invariant}
 use Rattle.refinement_laws.proofs.Facts_is.{declared_is, entry_is, authority_is, head_is, on_is, room_is, error_is, speed_is}
@@ -39,9 +41,9 @@ module _ (line : Line) (s : Story) (p : Plain) (k : Refines line s p) (invariant
   built_now (Train u long error speed kind) = ap (λ (b : Bool). ranged 1 65535 u.0 && (ranged 1 1000000 long && (nat_lt error long && (ranged 1 60000 speed && (not b && is_equipped kind))))) (sym (declared_is line s p k invariant u.0))
   built_now (Entry u step) = ap (λ (b : Bool). b && begins_at_portal line step) (sym (declared_is line s p k invariant u.0))
   built_now (Enter u) = sym (declared_is line s p k invariant u.0)
-  built_now (Ask u z steps to) = ap (λ (b : Bool). b && (has_zone line z.0 && list_all (on_line line) steps.items)) (sym (declared_is line s p k invariant u.0))
+  built_now (Ask u z steps to) = ap (λ (b : Bool). b && (has_zone line z.0 && (ranged 1 24 (length steps.items) && (list_all (on_line line) steps.items && ranged 1 10000000 to)))) (sym (declared_is line s p k invariant u.0))
   built_now (Step ms moves) = ap (λ (f : TrainId × ℕ → Bool). ranged 1 60000 ms && (ascending 0 moves.items && list_all f moves.items)) (fun_ext known_now)
-  built_now (Report u z step offset whole) = ap (λ (b : Bool). b && (has_zone line z.0 && on_line line step)) (sym (declared_is line s p k invariant u.0))
+  built_now (Report u z step offset whole) = ap (λ (b : Bool). b && (has_zone line z.0 && (on_line line step && (le_z (pos 0 -ℤ pos 1000000) offset && le_z offset (pos 11000000))))) (sym (declared_is line s p k invariant u.0))
   built_now (Time z u) = ap (λ (b : Bool). has_zone line z.0 && (nat_eq u.0 0 || b)) (sym (declared_is line s p k invariant u.0))
   built_now _ = refl
 
@@ -93,8 +95,9 @@ module _ (line : Line) (s : Story) (p : Plain) (k : Refines line s p) (invariant
   enters_now _ = refl
 
   module _ (l : IsLineOfOneZone line) where
-    takes_now : (e : Event) → built line s e ≡ true → takes_rightly s e ≡ plain_takes p e
+    takes_now : (e : Event) → built line s e ≡ true → takes_rightly s e ≡ (hears_noise e && plain_takes p e)
     takes_now (Take to from number) h = ap (λ (xs : List Msg). nat_lt 0 number && nat_le number (length xs)) (sym (k.links from to h))
+    takes_now (Noise to from bytes) h = sym (and-true (hears_noise (Noise to from bytes)))
     takes_now _ h = refl
 
     pub premise_now : (e : Event) → built line s e ≡ true → premise_of line s e ≡ plain_premise p e
@@ -105,17 +108,19 @@ module _ (line : Line) (s : Story) (p : Plain) (k : Refines line s p) (invariant
         ∙ (ap (λ (b : Bool). premise_by (world_reports p.world e) (world_moves p.world e) b (enters_rightly s e) (takes_rightly s e)) (stops_now e)
         ∙ (ap (λ (b : Bool). premise_by (world_reports p.world e) (world_moves p.world e) (world_stops p.world e) b (takes_rightly s e)) (enters_now e)
         ∙ (ap (λ (b : Bool). premise_by (world_reports p.world e) (world_moves p.world e) (world_stops p.world e) (world_enters p.world e) b) (takes_now e h)
-        ∙ by_five (world_reports p.world e) (world_moves p.world e) (world_stops p.world e) (world_enters p.world e) (plain_takes p e)))))
+        ∙ by_six (world_reports p.world e) (world_moves p.world e) (world_stops p.world e) (world_enters p.world e) (hears_noise e) (plain_takes p e)))))
       where
         premise_by : Bool → Bool → Bool → Bool → Bool → ℕ
         premise_by a b c d f = if not a then 1 else if not b then 2 else if not c then 4 else if not d then 5 else if not f then 6 else 0
 
-        first_by : Bool → Bool → Bool → Bool → ℕ
-        first_by a b c d = if not a then 1 else if not b then 2 else if not c then 4 else if not d then 5 else 0
+        first_by : Bool → Bool → Bool → Bool → Bool → ℕ
+        first_by a b c d n = if not a then 1 else if not b then 2 else if not c then 4 else if not d then 5 else if not n then 6 else 0
 
-        by_five : (a b c d f : Bool) → premise_by a b c d f ≡ (if not (nat_eq (first_by a b c d) 0) then first_by a b c d else if not f then 6 else 0)
-        by_five false b c d f = refl
-        by_five true false c d f = refl
-        by_five true true false d f = refl
-        by_five true true true false f = refl
-        by_five true true true true f = refl
+        by_six : (a b c d n f : Bool) → premise_by a b c d (n && f) ≡ (if not (nat_eq (first_by a b c d n) 0) then first_by a b c d n else if not f then 6 else 0)
+        by_six false b c d n f = refl
+        by_six true false c d n f = refl
+        by_six true true false d n f = refl
+        by_six true true true false n f = refl
+        by_six true true true true false f = refl
+        by_six true true true true true false = refl
+        by_six true true true true true true = refl

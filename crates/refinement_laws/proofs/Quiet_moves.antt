@@ -4,7 +4,7 @@ use Rattle.std.proofs.lemmas.Bool.Decides.{nat_tests}
 use Rattle.std.proofs.lemmas.Bool.{eqb-true}
 use Rattle.std.proofs.Math.Bool.{and-false}
 use Rattle.std.specs.Prelude.{nat_eq}
-use Rattle.list_laws.proofs.Tests.{by_test}
+use Rattle.list_laws.proofs.By_test.{by_test}
 use Rattle.track_points.specs.declared.ids.DirSeg.{DirSeg}
 use Rattle.track_points.specs.declared.ids.TrainId.{TrainId}
 use Rattle.track_points.specs.Points.{total}
@@ -26,7 +26,7 @@ use Rattle.plain_state.specs.Zone.{find_controlled, grown_train}
 use Rattle.definitions.specs.Zones.{zone_id}
 use Rattle.plain_state.specs.Plain.{Plain}
 use Rattle.plain_state.specs.Refinement.{zone_train, ids, Distinct, Refines}
-use Rattle.event_laws.proofs.Issued.{AllIn, AllIssued, NoAuth}
+use Rattle.event_laws.proofs.Issued_all.{AllIn, AllIssued, NoAuth}
 use Rattle.way_laws.proofs.Between_points.{between_end}
 use Rattle.event_laws.proofs.Controls_same.{controls_same}
 use Rattle.event_laws.proofs.Still_world.{journey_still}

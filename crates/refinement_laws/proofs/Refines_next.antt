@@ -1,6 +1,9 @@
 -- What a program that keeps the plain state may say of the story.
-use Rattle.std.proofs.Common.{◌≡◌, ℕ, suc, ◌<◌, List, [], ◌∷◌, length, Some, true, refl, ap, subst, sym}
+use Rattle.std.proofs.Common.{◌≡◌, ℕ, suc, ◌<◌, ◌≤◌, List, [], ◌∷◌, length, Some, true, refl, ap, subst, sym, ◌∙◌, arith}
+use Rattle.std.specs.Prelude.{slice_get}
 use Rattle.definitions.specs.declared.event.Event.{Event}
+use Rattle.definitions.specs.declared.message.Msg.{Msg}
+use Rattle.definitions.specs.Frames.{Fits}
 use Rattle.track_points.specs.Points.{Point}
 use Rattle.definitions.specs.Track.{Line, layout}
 use Rattle.definitions.specs.Authority.{envelope}
@@ -10,10 +13,12 @@ use Rattle.definitions.specs.Premises.{built, too_many, premise_of, admits}
 use Rattle.definitions.specs.Steps.{Effect, effects, story_of}
 use Rattle.definitions.specs.Safe.{IsLineOfOneZone, Kept}
 use Rattle.definitions.specs.Zones.{zone_id}
-use Rattle.plain_state.specs.Plain.{Plain, plain_effect, plain_next}
+use Rattle.plain_state.specs.Plain.{Plain, is_link, plain_effect, plain_next}
 use Rattle.plain_state.specs.Admits.{plain_built, plain_too_many, plain_premise}
 use Rattle.plain_state.specs.Refinement.{Refines}
+use Rattle.event_laws.proofs.Issued_all.{AllIn, AllIssued}
 use Rattle.event_laws.proofs.Admitted.{admitted}
+use Rattle.fit_laws.proofs.Fits_story.{all_fit, fits_story}
 use Rattle.motion_laws.proofs.Timed_story.{timed_story}
 use Rattle.invariant_laws.proofs.Invariant.{Invariant}
 use Rattle.refinement_laws.proofs.Premise_now.{built_now, too_many_now, premise_now}
@@ -60,6 +65,19 @@ pub refines_next : (line : Line) (es : List Event) (p : Plain) (e : Event) → I
 unfolding story_of
 refines_next line es p e one short k h refines invariant =
     refines_step line (story_of line es) p e one (story_short line es short) (admitted line (story_of line es) e h) (timed_story line es k) refines (λ t. invariant t es k) (sound_behind line es e k h invariant)
+
+-- a message on a link is in its ranges
+pub link_fits : (line : Line) (es : List Event) (p : Plain) (from to j : ℕ) (m : Msg) → IsLineOfOneZone line → Kept line es → length es ≤ 10000000 → Refines line (story_of line es) p → is_link line to from ≡ true → slice_get (p.links from to) j ≡ Some m → Fits m
+link_fits line es p from to j m one k few refines link is =
+    fits_story line es from to j m one k few (ap (λ (ms : List Msg). slice_get ms j) (sym (refines.links from to link)) ∙ is)
+
+-- and so is each that an admitted event issues
+pub issued_fit : (line : Line) (es : List Event) (p : Plain) (e : Event) → IsLineOfOneZone line → length es < 10000000 → Kept line es → admits line (story_of line es) e ≡ true → Refines line (story_of line es) p → AllInvariant line
+    → AllIn Fits (plain_effect line p e).issued
+unfolding story_of Kept AllIssued
+issued_fit line es p e one short k h refines invariant =
+    let all = all_fit line (e ∷ es) one (h, k) (omega (arith, short)) in
+    subst (λ (issued : List (ℕ × Msg)). AllIn Fits issued) (effect_is line es p e one (omega (arith, short)) k h refines invariant).0 all.0
 
 -- the envelope that the zone shows of a train
 pub envelope_is : (line : Line) (es : List Event) (p : Plain) (t : ℕ) (x : Controlled) (point : Point) → IsLineOfOneZone line → Kept line es → Refines line (story_of line es) p → AllInvariant line → find_controlled t (p.zones (zone_id line)).trains ≡ Some x

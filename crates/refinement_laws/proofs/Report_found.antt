@@ -4,7 +4,7 @@ use Rattle.std.proofs.lemmas.Bool.Decides.{nat_tests}
 use Rattle.std.proofs.lemmas.Bool.{eqb-true, and_parts}
 use Rattle.std.proofs.Math.Bool.{and-false}
 use Rattle.std.specs.Prelude.{ℤ, nat_eq}
-use Rattle.list_laws.proofs.Tests.{by_test}
+use Rattle.list_laws.proofs.By_test.{by_test}
 use Rattle.track_points.specs.declared.ids.TrainId.{TrainId}
 use Rattle.envelope.specs.declared.fronts.Fronts.{Fronts}
 use Rattle.definitions.specs.declared.message.Msg.{Msg}
@@ -34,7 +34,7 @@ use Rattle.refinement_laws.proofs.Way_of.{way_of}
 use Rattle.refinement_laws.proofs.Mark_is.{mark_is}
 use Rattle.refinement_laws.proofs.Zone_kept.{kept_train}
 use Rattle.refinement_laws.proofs.Narrowed_is.{shown_train, narrowed_is, place_is, cut_is}
-use Rattle.event_laws.proofs.Issued.{NoAuth}
+use Rattle.event_laws.proofs.Issued_all.{NoAuth}
 use Rattle.refinement_laws.proofs.Zone_idle.{no_train}
 use Rattle.refinement_laws.proofs.Zone_moves.{zone_made}
 use Rattle.refinement_laws.proofs.Zone_still.{grown_is, zone_silent, behind_used}

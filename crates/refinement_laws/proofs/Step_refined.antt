@@ -4,7 +4,7 @@ use Rattle.std.proofs.lemmas.Bool.Decides.{nat_tests}
 use Rattle.std.proofs.lemmas.Bool.{eqb-true, leb-true, and_parts}
 use Rattle.std.specs.Prelude.{nat_eq, nat_lt, nat_le, is_some}
 use Rattle.std.specs.List.{list_all}
-use Rattle.list_laws.proofs.Tests.{by_test}
+use Rattle.list_laws.proofs.By_test.{by_test}
 use Rattle.arrayvec.specs.ArrayVec.{ArrayVec}
 use Rattle.track_points.specs.declared.ids.DirSeg.{DirSeg}
 use Rattle.track_points.specs.declared.ids.TrainId.{TrainId}
@@ -23,9 +23,9 @@ use Rattle.plain_state.specs.declared.WorldTrain.{WorldTrain}
 use Rattle.plain_state.specs.World.{find_train, change_train, head_at_entry, kept_limit, come_on, moved_on, moved_train, trains_moved}
 use Rattle.plain_state.specs.Plain.{Plain, by_world as world_next}
 use Rattle.plain_state.specs.Refinement.{kept_authority, head_of, world_of, world_train, Refines}
-use Rattle.event_laws.proofs.Notions.{ever_now}
+use Rattle.event_laws.proofs.Entered_same.{ever_now}
 use Rattle.motion_laws.proofs.Motion.{heads_rise}
-use Rattle.event_laws.proofs.Issued.{AllIn, NoAuth}
+use Rattle.event_laws.proofs.Issued_all.{AllIn, NoAuth}
 use Rattle.invariant_laws.proofs.Invariant.{Invariant}
 use Rattle.refinement_laws.proofs.Find_change.{find_change, find_other, length_change}
 use Rattle.plain_state.proofs.Found_changed.{mapped}

@@ -1,7 +1,7 @@
 -- The zone's trains follow any message that the zone takes and acts on.
 use Rattle.std.proofs.Common.{◌≡◌, ℕ, suc, ◌-◌, List, [], ◌∷◌, Option, Some, None, Bool, true, false, ◌&&◌, refl, sym, ◌∙◌, ap, subst}
 use Rattle.std.specs.Prelude.{nat_eq, nat_lt, is_some}
-use Rattle.list_laws.proofs.Tests.{by_test}
+use Rattle.list_laws.proofs.By_test.{by_test}
 use Rattle.arrayvec.specs.ArrayVec.{ArrayVec}
 use Rattle.track_points.specs.declared.ids.DirSeg.{DirSeg}
 use Rattle.track_points.specs.declared.ids.TrainId.{TrainId}
@@ -24,7 +24,7 @@ use Rattle.plain_state.specs.Zone.{find_controlled, change_controlled, full, hol
 use Rattle.definitions.specs.Zones.{zone_id}
 use Rattle.plain_state.specs.Plain.{Plain}
 use Rattle.plain_state.specs.Refinement.{Refines}
-use Rattle.event_laws.proofs.Issued.{NoAuth, no_issue}
+use Rattle.event_laws.proofs.Issued_all.{NoAuth, no_issue}
 use Rattle.event_laws.proofs.Controls_same.{controls_knows}
 use Rattle.invariant_laws.proofs.Invariant.{Invariant}
 use Rattle.plain_state.proofs.Found_changed.{ids_change, distinct_change}

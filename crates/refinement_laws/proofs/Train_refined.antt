@@ -2,7 +2,7 @@
 use Rattle.std.proofs.Common.{◌≡◌, ℕ, suc, ◌-◌, [], ◌∷◌, ◌++◌, length, Option, Some, None, true, false, refl, sym, ◌∙◌, ap, subst, arith}
 use Rattle.std.proofs.lemmas.Bool.{eqb-true}
 use Rattle.std.specs.Prelude.{nat_eq}
-use Rattle.list_laws.proofs.Tests.{by_test, none_of}
+use Rattle.list_laws.proofs.By_test.{by_test, none_of}
 use Rattle.track_points.specs.declared.ids.DirSeg.{DirSeg}
 use Rattle.track_points.specs.declared.ids.TrainId.{TrainId}
 use Rattle.definitions.specs.declared.event.Event.TheVariants.{Train, Entry}
@@ -19,8 +19,8 @@ use Rattle.plain_state.specs.declared.WorldTrain.{WorldTrain}
 use Rattle.plain_state.specs.World.{find_train, change_train, new_train, asked_at_portal}
 use Rattle.plain_state.specs.Plain.{Plain, by_world as world_next}
 use Rattle.plain_state.specs.Refinement.{kept_authority, head_of, world_of, world_train, Refines}
-use Rattle.event_laws.proofs.Notions.{told_now, entered_same, or_none}
-use Rattle.event_laws.proofs.Issued.{AllIn, NoAuth}
+use Rattle.event_laws.proofs.Entered_same.{told_now, entered_same, or_none}
+use Rattle.event_laws.proofs.Issued_all.{AllIn, NoAuth}
 use Rattle.journey_laws.proofs.Journey_track.{journey_ends, journey_led, led_still}
 use Rattle.invariant_laws.proofs.Invariant.{Invariant}
 use Rattle.invariant_laws.proofs.One_route.{on_controls}

@@ -1,6 +1,6 @@
 -- What an event leaves that issues no authority of a train.
 use Rattle.std.proofs.Common.{◌≡◌, ℕ, ◌≤◌, ◌∷◌, true, false, arith}
-use Rattle.list_laws.proofs.Tests.{by_test}
+use Rattle.list_laws.proofs.By_test.{by_test}
 use Rattle.definitions.specs.Track.{Line}
 use Rattle.definitions.specs.Story.{Transition, Story}
 use Rattle.definitions.specs.World.{head}
@@ -8,7 +8,7 @@ use Rattle.definitions.specs.Control.{controls}
 use Rattle.definitions.specs.Longest.{longest_end}
 use Rattle.definitions.specs.Safe.{IsLineOfOneZone}
 use Rattle.definitions.specs.Zones.{zone_id}
-use Rattle.event_laws.proofs.Issued.{NoAuth}
+use Rattle.event_laws.proofs.Issued_all.{NoAuth}
 use Rattle.invariant_laws.proofs.Invariant.{Invariant}
 use Rattle.front_laws.proofs.Route_goes_on.{end_quiet}
 use Rattle.refinement_laws.proofs.The_zone.{zone_positive}

@@ -1,7 +1,7 @@
 -- What a transition of the world leaves of the plain state, and which trains it leaves as they are.
 use Rattle.std.proofs.Common.{◌≡◌, ℕ, ◌≤◌, List, ◌∷◌, ◌++◌, length, None, true, false, refl, sym, ◌∙◌, ap, subst, arith}
 use Rattle.std.specs.Prelude.{nat_eq, is_some}
-use Rattle.list_laws.proofs.Tests.{by_test}
+use Rattle.list_laws.proofs.By_test.{by_test}
 use Rattle.definitions.specs.declared.message.Msg.{Msg}
 use Rattle.definitions.specs.Track.{Line}
 use Rattle.definitions.specs.Story.{Transition, Story, to_actor, sent}
@@ -15,13 +15,13 @@ use Rattle.plain_state.specs.Zone.{PlainZone, find_controlled, hold_has}
 use Rattle.definitions.specs.Zones.{zone_id}
 use Rattle.plain_state.specs.Plain.{Plain, posted, by_world as world_next}
 use Rattle.plain_state.specs.Refinement.{world_train, zone_train, ZoneRefines, Refines}
-use Rattle.event_laws.proofs.Notions.{entered_same}
+use Rattle.event_laws.proofs.Entered_same.{entered_same}
 use Rattle.event_laws.proofs.Still_world.{StillWorld, head_same, facts_still, entry_still, authority_still, last_still, limit_still, sent_by, sent_else, journey_still}
 use Rattle.invariant_laws.proofs.Invariant.{Invariant}
 use Rattle.refinement_laws.proofs.The_zone.{the_zone, each_zone}
 use Rattle.event_laws.proofs.Last_quiet.{last_quiet}
 use Rattle.refinement_laws.proofs.Holds_are.{fronts_are, holds_are}
-use Rattle.event_laws.proofs.Issued.{NoAuth}
+use Rattle.event_laws.proofs.Issued_all.{NoAuth}
 use Rattle.refinement_laws.proofs.Zone_idle.{known_idle, now_still, zone_idle}
 
 pub world_same : (line : Line) (t : ℕ) (x : Transition) (s : Story) → StillWorld t x → world_train line t (x ∷ s) ≡ world_train line t s

@@ -3,7 +3,7 @@ use Rattle.std.proofs.Common.{◌≡◌, ℕ, ◌-◌, ◌≤◌, max, List, [],
 use Rattle.std.proofs.lemmas.Bool.Decides.{nat_tests}
 use Rattle.std.proofs.lemmas.Bool.{eqb-true}
 use Rattle.std.specs.Prelude.{nat_eq, nat_lt, slice_get, is_some}
-use Rattle.list_laws.proofs.Tests.{by_test}
+use Rattle.list_laws.proofs.By_test.{by_test}
 use Rattle.track_points.specs.declared.ids.DirSeg.{DirSeg}
 use Rattle.track_points.specs.declared.ids.TrainId.{TrainId}
 use Rattle.track_points.specs.declared.path.Path.{Path}
@@ -24,8 +24,8 @@ use Rattle.plain_state.specs.declared.WorldTrain.{WorldTrain}
 use Rattle.plain_state.specs.World.{find_train, change_train, authority_if_first, room_on, took_by, took_auth, trains_after}
 use Rattle.plain_state.specs.Plain.{Plain, by_world as world_next}
 use Rattle.plain_state.specs.Refinement.{kept_authority, head_of, world_of, world_train, Refines}
-use Rattle.event_laws.proofs.Notions.{entered_same}
-use Rattle.event_laws.proofs.Issued.{issued_all, NoAuth, no_issue}
+use Rattle.event_laws.proofs.Entered_same.{entered_same}
+use Rattle.event_laws.proofs.Issued_all.{issued_all, NoAuth, no_issue}
 use Rattle.invariant_laws.proofs.Invariant.{AuthIs, AuthTrue, Invariant}
 use Rattle.invariant_laws.proofs.One_route.{on_controls}
 use Rattle.refinement_laws.proofs.Find_change.{find_change, find_other, length_change}

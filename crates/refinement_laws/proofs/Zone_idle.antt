@@ -2,7 +2,7 @@
 use Rattle.std.proofs.Common.{◌≡◌, ℕ, ◌≤◌, ◌∷◌, Option, Some, None, false, refl, sym, ◌∙◌, ap, arith}
 use Rattle.std.proofs.lemmas.Bool.Decides.{nat_tests}
 use Rattle.std.specs.Prelude.{nat_eq}
-use Rattle.list_laws.proofs.Tests.{by_test}
+use Rattle.list_laws.proofs.By_test.{by_test}
 use Rattle.definitions.specs.Track.{Line, seg_len}
 use Rattle.definitions.specs.Ways.{PlainWay}
 use Rattle.definitions.specs.Story.{Transition, Story}
@@ -23,7 +23,7 @@ use Rattle.event_laws.proofs.Last_quiet.{last_quiet}
 use Rattle.refinement_laws.proofs.The_zone.{zone_positive}
 use Rattle.refinement_laws.proofs.Facts_is.{no_way}
 use Rattle.refinement_laws.proofs.Zone_kept.{kept_train, zone_kept, zone_behind}
-use Rattle.event_laws.proofs.Issued.{NoAuth}
+use Rattle.event_laws.proofs.Issued_all.{NoAuth}
 use Rattle.refinement_laws.proofs.World_controls.{end_same, world_controls}
 
 pub no_train : (line : Line) (t : ℕ) (s : Story) → controls (zone_id line) t s ≡ false → zone_train line t s ≡ None

@@ -2,7 +2,7 @@
 use Rattle.std.proofs.Common.{◌≡◌, ℕ, suc, ◌≤◌, max, List, ◌∷◌, length, Option, Some, Bool, true, false, refl, sym, ◌∙◌, ap, arith}
 use Rattle.std.proofs.lemmas.Bool.Decides.{nat_tests}
 use Rattle.std.specs.Prelude.{ℤ, nat_eq}
-use Rattle.list_laws.proofs.Tests.{by_test}
+use Rattle.list_laws.proofs.By_test.{by_test}
 use Rattle.track_points.specs.declared.ids.DirSeg.{DirSeg}
 use Rattle.track_points.specs.declared.ids.TrainId.{TrainId}
 use Rattle.track_points.specs.Points.{steps_to}
@@ -31,7 +31,7 @@ use Rattle.event_laws.proofs.Last_quiet.{last_quiet}
 use Rattle.plain_state.proofs.Found_changed.{mapped}
 use Rattle.refinement_laws.proofs.Way_of.{way_of}
 use Rattle.refinement_laws.proofs.Zone_kept.{kept_train, zone_kept, kept_grown, zone_behind}
-use Rattle.event_laws.proofs.Issued.{NoAuth}
+use Rattle.event_laws.proofs.Issued_all.{NoAuth}
 use Rattle.refinement_laws.proofs.World_controls.{end_same}
 use Rattle.refinement_laws.proofs.Zone_idle.{no_train}
 use Rattle.refinement_laws.proofs.Zone_moves.{zone_made, zone_heads}

@@ -2,7 +2,7 @@
 use Rattle.std.proofs.Common.{◌≡◌, ℕ, suc, max, List, ◌∷◌, ◌++◌, map, filter, Option, Some, None, Bool, true, false, ◌&&◌, refl, sym, ◌∙◌, ap, subst, arith, not, if◌then◌else◌}
 use Rattle.std.proofs.lemmas.Bool.Decides.{nat_tests}
 use Rattle.std.specs.Prelude.{nat_eq, is_some}
-use Rattle.list_laws.proofs.Tests.{by_test}
+use Rattle.list_laws.proofs.By_test.{by_test}
 use Rattle.definitions.specs.declared.message.Msg.{Msg}
 use Rattle.definitions.specs.declared.outcome.Outcome.{Outcome}
 use Rattle.definitions.specs.Track.{Line}

@@ -11,7 +11,7 @@ use Rattle.definitions.specs.declared.document.Ending.TheVariants as ends
 use Rattle.definitions.specs.Lines.{text_lines}
 use Rattle.definitions.specs.Rules.{finish_rule}
 use Rattle.definitions.specs.Endings.{status_of}
-use Rattle.definitions.specs.Trace.{Given}
+use Rattle.definitions.specs.Trace.{Given, trace}
 use Rattle.definitions.specs.declared.document.Command.{Command}
 use Rattle.definitions.specs.declared.document.Command.TheVariants as is
 use Rattle.document_laws.specs.Whole.{IsDocument, IsDocumentWithoutScript, IsCheckable, whole, checked, lines_ended}
@@ -104,3 +104,8 @@ pub record RefusesCheckedFor (s : Status) (bytes : List ℕ) (before now : Optio
 abbrev pub RefusesChecked : Status → Option (List ℕ) → Option (List ℕ) → Option (List ℕ) → ℕ → ℕ → ℕ → ℕ → Type 0
 RefusesChecked s None before now r0 r w0 w = Unit {0}
 RefusesChecked s (Some bytes) before now r0 r w0 w = NoFault r0 r w0 w → RefusesCheckedFor s bytes before now
+
+-- No command ends it by the limit on messages: that on events comes first.
+
+abbrev pub NeverMessages : List ℕ → Type 0
+NeverMessages bytes = (c : Command) → (trace c bytes).ending ≡ ends.Messages → ⊥

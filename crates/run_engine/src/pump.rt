@@ -4,7 +4,7 @@ ghost use Rattle.definitions.specs.Trace.{is_over};
 ghost use Rattle.byte_feed.specs.Feed.{opened};
 ghost use Rattle.run_engine.specs.Feeding.{feed_shown, Within};
 ghost use Rattle.document_laws.specs.Throughout.{SafeThroughout};
-ghost use Rattle.run_engine.specs.Complete.{Complete, CompleteCheck, RefusesDocument, RefusesChecked};
+ghost use Rattle.run_engine.specs.Complete.{Complete, CompleteCheck, RefusesDocument, RefusesChecked, NeverMessages};
 ghost use Rattle.definitions.specs.declared.document.Command.TheVariants.{Run, Check};
 ghost use Rattle.run_engine.specs.Running.{AtEnd, AtStop, Midway, Pumped, PumpCauses, Ran, ReadCut, Causes, cut_of, status_of_cut};
 
@@ -117,7 +117,7 @@ fn give<S: Source, K: Sink>(alloc: Global, command: Command, src: &mut S, sink: 
 }
 
 /// Writes what a run of the source's bytes gives: the outcome lines of a document, and its last line.
-#[tactic(auto, using(crate::proofs::Completing::all_safe))]
+#[tactic(auto, using(crate::proofs::All_safe::all_safe, crate::proofs::All_safe::no_messages))]
 pub fn run<S: Source, K: Sink>(alloc: Global, src: &mut S, sink: &mut K) -> Status
     ensures ran { Ran Run result (S.left src.old) (K.written sink.old) (K.written sink.new) }
     ensures read { ReadCut Run result (S.left src.old) (S.left src.new) (K.written sink.old) (K.written sink.new) }
@@ -126,11 +126,13 @@ pub fn run<S: Source, K: Sink>(alloc: Global, src: &mut S, sink: &mut K) -> Stat
     ensures complete { Complete result (S.left src.old) (K.written sink.old) (K.written sink.new) (S.faults src.old) (S.faults src.new) (K.faults sink.old) (K.faults sink.new) }
     ensures refuses { RefusesDocument result (S.left src.old) (K.written sink.old) (K.written sink.new) (S.faults src.old) (S.faults src.new) (K.faults sink.old) (K.faults sink.new) }
     ensures safe { IfSome (S.left src.old) SafeThroughout }
+    ensures few { IfSome (S.left src.old) NeverMessages }
 {
     give(alloc, Command::Run, src, sink)
 }
 
 /// Writes what a check of the source's bytes gives: the document without comments and blank lines, and its last line.
+#[tactic(auto, using(crate::proofs::All_safe::no_messages))]
 pub fn check<S: Source, K: Sink>(alloc: Global, src: &mut S, sink: &mut K) -> Status
     ensures ran { Ran Check result (S.left src.old) (K.written sink.old) (K.written sink.new) }
     ensures read { ReadCut Check result (S.left src.old) (S.left src.new) (K.written sink.old) (K.written sink.new) }
@@ -138,6 +140,7 @@ pub fn check<S: Source, K: Sink>(alloc: Global, src: &mut S, sink: &mut K) -> St
     ensures ended { result ≡ Status.Done → AtEnd (S.left src.new) }
     ensures complete { CompleteCheck result (S.left src.old) (K.written sink.old) (K.written sink.new) (S.faults src.old) (S.faults src.new) (K.faults sink.old) (K.faults sink.new) }
     ensures refuses { RefusesChecked result (S.left src.old) (K.written sink.old) (K.written sink.new) (S.faults src.old) (S.faults src.new) (K.faults sink.old) (K.faults sink.new) }
+    ensures few { IfSome (S.left src.old) NeverMessages }
 {
     give(alloc, Command::Check, src, sink)
 }

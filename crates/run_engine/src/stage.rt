@@ -208,7 +208,8 @@ fn run_event(
     match system.read(event, outs, lines)? {
         Answer::Unbuilt => unreachable!(),
         Answer::TooMany => Ok(Reads::Ends(Ending::Trains)),
-        Answer::Full => Ok(Reads::Ends(Ending::Events)),
+        Answer::Events => Ok(Reads::Ends(Ending::Events)),
+        Answer::Messages => Ok(Reads::Ends(Ending::Messages)),
         Answer::Premise(premise) => Ok(Reads::Ends(Ending::Premise(n, premise))),
         Answer::Goes => {
             *count += 1;
@@ -345,6 +346,7 @@ pub fn status(ending: &Ending) -> Status
         Ending::Input => Status::Limit,
         Ending::Trains => Status::Limit,
         Ending::Events => Status::Limit,
+        Ending::Messages => Status::Limit,
         Ending::Unbuilt(_) => Status::Unbuilt,
     }
 }

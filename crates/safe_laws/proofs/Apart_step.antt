@@ -4,15 +4,15 @@ use Rattle.std.proofs.lemmas.Bool.{eqb-true, and_parts, or_left, or_right}
 use Rattle.std.proofs.Math.Bool.{and-false}
 use Rattle.std.specs.Prelude.{nat_eq, nat_lt, is_none}
 use Rattle.std.specs.List.{list_any}
-use Rattle.list_laws.proofs.Tests.{by_or, by_test}
+use Rattle.list_laws.proofs.By_test.{by_or, by_test}
 use Rattle.track_points.specs.declared.ids.DirSeg.{DirSeg}
 use Rattle.track_points.specs.declared.ids.Dir.{Dir}
 use Rattle.track_points.specs.declared.ids.Dir.TheVariants.{Up, Down}
 use Rattle.track_points.specs.declared.path.Path.{Path}
 use Rattle.track_points.specs.Points.{Layout, Point, Cell, Token, is_switch, mm_at, some_below, cell_at, is_at, end_place, has_between}
-use Rattle.track_points.proofs.Some.{some_at}
-use Rattle.track_points.proofs.Places.{cell_here}
-use Rattle.track_points.proofs.Between.{points_found}
+use Rattle.track_points.proofs.Some_found.{some_at}
+use Rattle.track_points.proofs.Cell_here.{cell_here}
+use Rattle.track_points.proofs.Points_found.{points_found}
 use Rattle.definitions.specs.Longest.{counted}
 use Rattle.definitions.specs.declared.event.Event.{Event}
 use Rattle.definitions.specs.declared.message.Msg.{Msg}

@@ -2,7 +2,7 @@
 use Rattle.std.proofs.Common.{◌≡◌, ℕ, suc, ◌≤◌, ◌∷◌, Some, true, false, ◌&&◌, ◌||◌, refl, sym, ◌∙◌, subst, arith}
 use Rattle.std.proofs.lemmas.Bool.{eqb-true, and_parts, or_left}
 use Rattle.std.specs.Prelude.{nat_eq}
-use Rattle.list_laws.proofs.Tests.{by_test}
+use Rattle.list_laws.proofs.By_test.{by_test}
 use Rattle.track_points.specs.Points.{Point}
 use Rattle.definitions.specs.declared.message.Msg.{Msg}
 use Rattle.definitions.specs.Track.{Line, seg_len, owner}
@@ -15,7 +15,7 @@ use Rattle.definitions.specs.Safe.{IsLineOfOneZone, added_by, added}
 use Rattle.event_laws.proofs.Grant_takes.{quiet_grants}
 use Rattle.definitions.specs.Zones.{zone_id}
 use Rattle.event_laws.proofs.Controls_same.{controls_same}
-use Rattle.event_laws.proofs.Issued.{AllIn, NoAuth, in_all_weaker, AuthHas, auth_without}
+use Rattle.event_laws.proofs.Issued_all.{AllIn, NoAuth, in_all_weaker, AuthHas, auth_without}
 use Rattle.invariant_laws.proofs.Invariant.{Invariant}
 use Rattle.front_laws.proofs.Route_goes_on.{end_most}
 use Rattle.safe_laws.proofs.Held_points.{held_controls}

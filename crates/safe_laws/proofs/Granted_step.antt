@@ -4,7 +4,7 @@ use Rattle.std.proofs.lemmas.Bool.{eqb-true, and_parts}
 use Rattle.std.proofs.lemmas.Bool.Decides.{nat_tests}
 use Rattle.std.proofs.Math.Bool.{and-false}
 use Rattle.std.specs.Prelude.{nat_eq, nat_lt}
-use Rattle.list_laws.proofs.Tests.{by_test}
+use Rattle.list_laws.proofs.By_test.{by_test}
 use Rattle.arrayvec.specs.ArrayVec.{ArrayVec}
 use Rattle.track_points.specs.declared.ids.DirSeg.{DirSeg}
 use Rattle.track_points.specs.declared.ids.TrainId.{TrainId}
@@ -30,7 +30,7 @@ use Rattle.event_laws.proofs.Zone_issues.{report_none, zone_other, world_none}
 use Rattle.definitions.specs.Zones.{zone_id}
 use Rattle.way_laws.proofs.Cut_front.{none_between}
 use Rattle.way_laws.proofs.Reach_granted.{reach_granted}
-use Rattle.event_laws.proofs.Issued.{AllIn, NoAuth, no_issue, AuthHas}
+use Rattle.event_laws.proofs.Issued_all.{AllIn, NoAuth, no_issue, AuthHas}
 use Rattle.event_laws.proofs.Admitted.{Admitted}
 use Rattle.motion_laws.proofs.Motion.{Timed, heads_grow}
 use Rattle.event_laws.proofs.Still_world.{heads_still}

@@ -2,7 +2,7 @@
 use Rattle.std.proofs.Common.{◌≡◌, ℕ, ◌<◌, ◌≤◌, ◌∷◌, Some, true, false, sym, ◌∙◌, ap, arith}
 use Rattle.std.proofs.lemmas.Bool.Decides.{nat_tests}
 use Rattle.std.specs.Prelude.{nat_le}
-use Rattle.list_laws.proofs.Tests.{by_test}
+use Rattle.list_laws.proofs.By_test.{by_test}
 use Rattle.track_points.specs.Points.{Point, has_between, steps_to}
 use Rattle.front_laws.proofs.Fronts_from.{fronts_from}
 use Rattle.definitions.specs.Track.{Line, seg_len, layout}
@@ -22,7 +22,7 @@ use Rattle.safe_laws.proofs.Points_cases.{range_in, range_least, points_cases}
 use Rattle.front_laws.proofs.Head_place.{place_within}
 use Rattle.way_laws.proofs.Cut_front.{cut_points}
 use Rattle.way_laws.proofs.Cut_cut.{cut_cut}
-use Rattle.track_points.proofs.Between.{points_wider}
+use Rattle.track_points.proofs.Points_found.{points_wider}
 use Rattle.front_laws.proofs.Route_goes_on.{route_goes_on, end_goes_on}
 use Rattle.safe_laws.proofs.Held_points.{one, route_has, rear_is, held_points, points_held}
 

@@ -1,10 +1,10 @@
 -- A message that was issued and passes a test.
 use Rattle.std.proofs.Common.{◌≡◌, ℕ, List, [], ◌∷◌, Bool, true}
 use Rattle.std.specs.List.{list_any}
-use Rattle.list_laws.proofs.Tests.{by_test}
+use Rattle.list_laws.proofs.By_test.{by_test}
 use Rattle.definitions.specs.declared.message.Msg.{Msg}
 use Rattle.definitions.specs.Story.{Story, ever_issued}
-use Rattle.event_laws.proofs.Issued.{AllIn, AllIssued}
+use Rattle.event_laws.proofs.Issued_all.{AllIn, AllIssued}
 
 -- one that passes
 in_found : (G : Type 0) (test : Msg → Bool) (P : Msg → Type 0) (issued : List (ℕ × Msg)) → AllIn P issued → list_any (λ (x : ℕ × Msg). test x.1) issued ≡ true

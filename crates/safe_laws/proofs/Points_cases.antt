@@ -2,10 +2,10 @@
 use Rattle.std.proofs.Common.{◌≡◌, ℕ, ◌≤◌, Bool, true, ◌&&◌, ◌||◌, List, refl, sym, ◌∙◌, arith}
 use Rattle.std.proofs.lemmas.Bool.Decides.{nat_tests}
 use Rattle.std.specs.Prelude.{nat_le, nat_lt}
-use Rattle.list_laws.proofs.Tests.{by_test}
+use Rattle.list_laws.proofs.By_test.{by_test}
 use Rattle.track_points.specs.declared.ids.DirSeg.{DirSeg}
 use Rattle.track_points.specs.Points.{Layout, Point, has_between}
-use Rattle.track_points.proofs.Between.{points_found, points_at}
+use Rattle.track_points.proofs.Points_found.{points_found, points_at}
 
 -- a test that passes exactly from one number to another
 abbrev pub IsRange : (ℕ → Bool) → ℕ → ℕ → Type 0

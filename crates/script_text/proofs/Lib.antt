@@ -1,6 +1,6 @@
-pub mod Adding
-pub mod Field_columns
-pub mod Event_values
-pub mod Good_table
-pub mod Making
-pub mod Reading
+pub mod Moves_put
+pub mod Counts_found
+pub mod Event_made
+pub mod Event_table
+pub mod Lent_moves
+pub mod Event_said

@@ -95,8 +95,13 @@ const REFUSED: &str = "11 take 1 0 01
 /// What each text line says, and the text line: a column, or one of the words.
 const LINES: &str = "passed\x20
 passed #
-unbuilt noise 1 1 00
 unbuilt order close 9
+unbuilt leave 9
+9 noise 1 1 00
+event noise 1 0 00
+7 round 2001
+8 lost 0 0 5
+event lost 0 1 4294967295
 unbuilt train 7 60 2 20 un
 7 train 7 60 2 20 eq
 event train 9 60 2 20 eq

@@ -11,7 +11,7 @@ use Rattle.definitions.specs.Steps.{effects}
 use Rattle.definitions.specs.Safe.{IsLineOfOneZone}
 use Rattle.definitions.specs.Zones.{zone_id}
 use Rattle.motion_laws.proofs.Motion.{Timed}
-use Rattle.event_laws.proofs.Issued.{AllIssued}
+use Rattle.event_laws.proofs.Issued_all.{AllIssued}
 use Rattle.event_laws.proofs.Admitted.{Admitted}
 use Rattle.event_laws.proofs.By_does.{effect_event}
 use Rattle.motion_laws.proofs.Head_step.{enter_once}
@@ -19,7 +19,7 @@ use Rattle.invariant_laws.proofs.Invariant.{RequestTrue, Authorized, Invariant}
 use Rattle.event_laws.proofs.Last_quiet.{last_grows}
 use Rattle.authority_laws.proofs.New_auth.{counted_next}
 use Rattle.authority_laws.proofs.Auths_stay.{Going}
-use Rattle.step_laws.proofs.Limit_stays.{going, number_grows}
+use Rattle.step_laws.proofs.Limit_goes.{going, number_grows}
 use Rattle.step_laws.proofs.Requests_stay.{requests_stay, effect_requests}
 use Rattle.step_laws.proofs.Issues.{Issues}
 use Rattle.step_laws.proofs.Effect_issues.{effect_issues}

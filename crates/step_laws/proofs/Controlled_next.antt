@@ -3,7 +3,7 @@ use Rattle.std.proofs.Common.{◌≡◌, ℕ, ◌≤◌, ◌<◌, List, ◌∷�
 use Rattle.std.proofs.lemmas.Bool.Decides.{nat_tests}
 use Rattle.std.proofs.lemmas.Bool.{eqb-true, and_parts}
 use Rattle.std.specs.Prelude.{nat_eq, nat_le, is_some}
-use Rattle.list_laws.proofs.Tests.{by_test}
+use Rattle.list_laws.proofs.By_test.{by_test}
 use Rattle.definitions.specs.declared.event.Event.{Event}
 use Rattle.definitions.specs.declared.event.Event.TheVariants.{Train, Enter}
 use Rattle.definitions.specs.declared.message.Msg.{Msg}
@@ -18,10 +18,10 @@ use Rattle.definitions.specs.Farther.{end_or_0}
 use Rattle.definitions.specs.Longest.{counted, longest_end}
 use Rattle.definitions.specs.Fronts.{least_rear}
 use Rattle.definitions.specs.Zones.{zone_id}
-use Rattle.event_laws.proofs.Issued.{AllIn, AllIssued, all_weaker, in_all_weaker}
+use Rattle.event_laws.proofs.Issued_all.{AllIn, AllIssued, all_weaker, in_all_weaker}
 use Rattle.event_laws.proofs.Admitted.{Admitted}
 use Rattle.event_laws.proofs.Facts_stay.{long_stays}
-use Rattle.event_laws.proofs.Notions.{told_stays, told_now, entered_same}
+use Rattle.event_laws.proofs.Entered_same.{told_stays, told_now, entered_same}
 use Rattle.event_laws.proofs.Controls_same.{controls_same, known_same}
 use Rattle.motion_laws.proofs.Head_step.{enter_once}
 use Rattle.invariant_laws.proofs.Invariant.{end_read, AuthorityIs, AuthIs, AuthTrue, FrontsAre, SomeIs, ControlIs, EntryHeld, LimitIs, Authorized}
@@ -36,7 +36,7 @@ use Rattle.front_laws.proofs.Route_goes_on.{read_stays}
 use Rattle.step_laws.proofs.Issues.{Issues, quiet, issues}
 use Rattle.event_laws.proofs.Grant_takes.{quiet_grants}
 use Rattle.step_laws.proofs.Effect_took_is.{TakenIs, AnswerIs}
-use Rattle.step_laws.proofs.Limit_stays.{limit_comes, limit_goes}
+use Rattle.step_laws.proofs.Limit_goes.{limit_comes, limit_goes}
 use Rattle.authority_laws.proofs.Rear_grows.{rear_grows}
 
 -- A declared train has a length.

@@ -3,7 +3,7 @@ use Rattle.std.proofs.Common.{◌≡◌, ℕ, suc, [], Some, true, false, refl, 
 use Rattle.std.proofs.lemmas.Bool.Decides.{nat_tests}
 use Rattle.std.proofs.lemmas.Bool.{eqb-true}
 use Rattle.std.specs.Prelude.{nat_eq}
-use Rattle.list_laws.proofs.Tests.{by_test}
+use Rattle.list_laws.proofs.By_test.{by_test}
 use Rattle.definitions.specs.declared.event.Event.{Event}
 use Rattle.definitions.specs.declared.event.Event.TheVariants.{Take}
 use Rattle.definitions.specs.declared.message.Msg.{Msg}
@@ -15,7 +15,7 @@ use Rattle.definitions.specs.Steps.{zone_step, transition, effects}
 use Rattle.definitions.specs.Safe.{IsLineOfOneZone}
 use Rattle.event_laws.proofs.By_does.{by_does, told_none, take_actors, take_issued}
 use Rattle.definitions.specs.Zones.{zone_id}
-use Rattle.event_laws.proofs.Issued.{no_issue}
+use Rattle.event_laws.proofs.Issued_all.{no_issue}
 use Rattle.event_laws.proofs.Admitted.{Admitted}
 use Rattle.invariant_laws.proofs.Invariant.{RequestTrue, Invariant}
 use Rattle.invariant_laws.proofs.Zone_only.{zone_only}

@@ -2,7 +2,7 @@
 use Rattle.std.proofs.Common.{◌≡◌, ℕ, zero, suc, ◌-◌, ◌≤◌, List, Option, Some, None, true, false, refl, sym, ◌∙◌, subst, arith}
 use Rattle.std.proofs.lemmas.Bool.{eqb-true}
 use Rattle.std.specs.Prelude.{nat_eq}
-use Rattle.list_laws.proofs.Tests.{by_test}
+use Rattle.list_laws.proofs.By_test.{by_test}
 use Rattle.definitions.specs.declared.event.Event.{Event}
 use Rattle.definitions.specs.declared.event.Event.TheVariants.{Take}
 use Rattle.definitions.specs.declared.message.Msg.{Msg}
@@ -15,7 +15,7 @@ use Rattle.definitions.specs.Steps.{world_takes, zone_step, transition, effects}
 use Rattle.definitions.specs.Safe.{IsLineOfOneZone}
 use Rattle.event_laws.proofs.Grant_takes.{granter, quiet_grants}
 use Rattle.definitions.specs.Zones.{zone_id}
-use Rattle.event_laws.proofs.Notions.{number_most}
+use Rattle.event_laws.proofs.Entered_same.{number_most}
 use Rattle.event_laws.proofs.Admitted.{Admitted}
 use Rattle.invariant_laws.proofs.Invariant.{RequestTrue, AuthIs, AuthTrue, Authorized}
 use Rattle.front_laws.proofs.Taken_counts.{answers}

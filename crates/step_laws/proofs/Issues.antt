@@ -3,7 +3,7 @@ use Rattle.std.proofs.Common.{◌≡◌, ℕ, ◌+◌, ◌≤◌, ◌<◌, List,
 use Rattle.std.proofs.lemmas.Bool.Decides.{nat_tests}
 use Rattle.std.specs.Prelude.{nat_eq, nat_lt}
 use Rattle.std.proofs.lemmas.Bool.{and_parts}
-use Rattle.list_laws.proofs.Tests.{by_test}
+use Rattle.list_laws.proofs.By_test.{by_test}
 use Rattle.track_points.specs.declared.ids.DirSeg.{DirSeg}
 use Rattle.track_points.specs.declared.ids.TrainId.{TrainId}
 use Rattle.track_points.specs.declared.path.Path.{Path}
@@ -26,7 +26,7 @@ use Rattle.definitions.specs.Safe.{IsLineOfOneZone}
 use Rattle.event_laws.proofs.Zone_issues.{entry_cases, ask_cases, time_cases}
 use Rattle.definitions.specs.Zones.{zone_id}
 use Rattle.motion_laws.proofs.Motion.{Motion}
-use Rattle.event_laws.proofs.Issued.{no_issue, NoAuth}
+use Rattle.event_laws.proofs.Issued_all.{no_issue, NoAuth}
 use Rattle.way_laws.proofs.Reach_granted.{reach_granted}
 use Rattle.event_laws.proofs.Controls_same.{controls_knows}
 use Rattle.invariant_laws.proofs.Invariant.{path_fits, FrontsAre, RequestTrue, Authorized}

@@ -1,28 +1,30 @@
 -- What requests for entry, asks and answers say.
-use Rattle.std.proofs.Common.{◌≡◌, ℕ, zero, suc, ◌-◌, ◌≤◌, ◌∷◌, Option, Some, None, Bool, true, false, refl, sym, ◌∙◌, ap, subst, arith}
+use Rattle.std.proofs.Common.{◌≡◌, ℕ, zero, suc, ◌-◌, ◌≤◌, ◌∷◌, length, Option, Some, None, Bool, true, false, refl, sym, ◌∙◌, ap, subst, arith}
 use Rattle.std.proofs.lemmas.Bool.{eqb-true, and_parts}
 use Rattle.std.specs.Prelude.{nat_eq, nat_lt, is_some}
 use Rattle.std.specs.List.{list_all}
-use Rattle.list_laws.proofs.Tests.{by_test}
+use Rattle.list_laws.proofs.By_test.{by_test}
 use Rattle.track_points.specs.declared.ids.Dir.{Dir}
 use Rattle.track_points.specs.declared.ids.DirSeg.{DirSeg}
 use Rattle.track_points.specs.declared.ids.TrainId.{TrainId}
 use Rattle.track_points.specs.Points.{dir_eq, step_eq}
 use Rattle.definitions.specs.declared.event.Event.{Event}
-use Rattle.definitions.specs.declared.event.Event.TheVariants.{Entry, Enter, Ask, Report, Time, Take}
+use Rattle.definitions.specs.declared.event.Event.TheVariants.{Entry, Enter, Ask, Report, Time, Take, Noise}
 use Rattle.definitions.specs.declared.message.Msg.{Msg}
 use Rattle.definitions.specs.declared.message.Msg.TheVariants as msg
-use Rattle.definitions.specs.Track.{Line, zone_of, has_zone, begins_at_portal}
+use Rattle.definitions.specs.Frames.{frame_at}
+use Rattle.definitions.specs.Track.{Line, ranged, zone_of, has_zone, begins_at_portal}
 use Rattle.definitions.specs.Premises.{on_line, same_portal}
 use Rattle.definitions.specs.Story.{Transition, Story}
 use Rattle.definitions.specs.World.{Facts, clock, facts_of, is_declared, entry_in, first_entry, enters, entered, HeldPath, entry_authority, auth_number, last_number}
 use Rattle.definitions.specs.Control.{last_issued}
 use Rattle.definitions.specs.Steps.{sender_of, entering, requesting, taking_auth, world_takes, zone_takes, taking, message, effects}
-use Rattle.event_laws.proofs.Issued.{AllIn, AllIssued, all_weaker}
-use Rattle.event_laws.proofs.Notions.{number_most, told_now, ever_now}
+use Rattle.event_laws.proofs.Issued_all.{AllIn, AllIssued, all_weaker}
+use Rattle.event_laws.proofs.Entered_same.{number_most, told_now, ever_now}
 use Rattle.event_laws.proofs.Admitted.{Admitted}
+use Rattle.event_laws.proofs.By_does.{noise_issues}
 use Rattle.event_laws.proofs.Facts_stay.{facts_stay, first_stays, entered_stays}
-use Rattle.way_laws.proofs.Lines.{dir_same}
+use Rattle.way_laws.proofs.Line_builds.{dir_same}
 use Rattle.invariant_laws.proofs.Invariant.{RequestTrue, EntryIs, Authorized}
 use Rattle.event_laws.proofs.Last_quiet.{last_grows}
 use Rattle.event_laws.proofs.Zone_issues.{zone_each}
@@ -132,8 +134,9 @@ module _ (line : Line) (t : ℕ) (s : Story) (k : Authorized line t s) where
   effect_requests (Entry u step) a =
       asked_now u step (facts_of u.0 s) refl (and_parts (is_declared u.0 s) (begins_at_portal line step) a.form).1 a.entering (effects line s (Entry u step)) refl
   effect_requests (Enter u) a = entered_now u (entry_authority u.0 s) refl (effects line s (Enter u)) refl
-  effect_requests (Ask u zone steps to) a = (λ y. (and_parts (has_zone line zone.0) (list_all (on_line line) steps.items) (and_parts (is_declared u.0 s) _ a.form).1).1, tt)
+  effect_requests (Ask u zone steps to) a = (λ y. (and_parts (list_all (on_line line) steps.items) _ (and_parts (ranged 1 24 (length steps.items)) _ (and_parts (has_zone line zone.0) _ (and_parts (is_declared u.0 s) _ a.form).1).1).1).0, tt)
   effect_requests (Report u zone step offset whole) a = (tt, tt)
   effect_requests (Time zone u) a = (tt, tt)
   effect_requests (Take to from number) a = take_requests (Take to from number) to from number (message from to number s) refl (effects line s (Take to from number))
+  effect_requests (Noise to from bytes) a = rw (noise_issues to (frame_at bytes.items)) tt
   effect_requests _ a = tt

@@ -1,5 +1,7 @@
-//! Tests of the system after worked scripts, over the library that reads them.
+//! Tests of the system after worked scripts, over the library that reads them, and of its links.
 #![tactic(auto)]
 
+#[cfg(test)]
+mod links;
 #[cfg(test)]
 mod tests;

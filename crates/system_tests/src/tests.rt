@@ -95,7 +95,7 @@ fn held(system: &System, z: ZoneId, train: TrainId) -> Option<PointSet>
 }
 
 /// The envelope of a train that the system's zone controls, by its history.
-#[tactic(auto, using(crate::proofs::Envelopes::shown))]
+#[tactic(auto, using(crate::proofs::Shown::shown))]
 fn envelope(system: &System, z: ZoneId, train: TrainId) -> Option<PointSet>
     ensures { IfSome result (λ set. (point : Point) → set_has set point ≡ envelope system.now.line z.0 train.0 (story_of system.now.line system.now.events) point) }
 {

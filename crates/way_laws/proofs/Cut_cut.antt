@@ -3,11 +3,11 @@ use Rattle.std.proofs.Common.{◌≡◌, ℕ, zero, suc, ◌+◌, ◌-◌, ◌<�
 use Rattle.std.proofs.lemmas.Bool.Decides.{nat_tests}
 use Rattle.std.proofs.Math.Seq.{take-append_seam}
 use Rattle.std.proofs.lemmas.Bool.{and_parts}
-use Rattle.list_laws.proofs.Tests.{by_test, same_bool}
+use Rattle.list_laws.proofs.By_test.{by_test, same_bool}
 use Rattle.track_points.specs.declared.ids.DirSeg.{DirSeg}
 use Rattle.track_points.specs.Points.{Lengths, Layout, Point, is_at, total, cell_at, has_between, place_of_last, steps_to, offset_to}
-use Rattle.track_points.proofs.Places.{cell_after}
-use Rattle.track_points.proofs.Between.{points_found, points_at}
+use Rattle.track_points.proofs.Cell_here.{cell_after}
+use Rattle.track_points.proofs.Points_found.{points_found, points_at}
 use Rattle.way_laws.proofs.Cut_front.{cut_front}
 use Rattle.way_laws.proofs.Track_front.{is_long, all_long}
 

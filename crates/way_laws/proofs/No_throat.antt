@@ -1,9 +1,9 @@
 -- No cell of a line lies in a throat, as no item declares a switch. All that follows from it follows from `no_throat`.
 use Rattle.std.proofs.Common.{◌≡◌, ℕ, Bool, false, List, Option, Some, None, refl, sym, ◌∙◌}
-use Rattle.list_laws.proofs.Tests.{by_test}
+use Rattle.list_laws.proofs.By_test.{by_test}
 use Rattle.track_points.specs.declared.ids.DirSeg.{DirSeg}
 use Rattle.track_points.specs.Points.{Point, Cell, Token, is_at, cell_at, has_between}
-use Rattle.track_points.proofs.Between.{points_found}
+use Rattle.track_points.proofs.Points_found.{points_found}
 use Rattle.definitions.specs.Track.{Line, throat_at, seg_len, layout}
 use Rattle.definitions.specs.Limit.{cell_passes}
 

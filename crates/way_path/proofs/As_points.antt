@@ -1,7 +1,7 @@
 -- The points between two places, step by step.
 use Rattle.std.proofs.Common.{◌≡◌, ℕ, suc, zero, ◌+◌, ◌-◌, ◌<◌, ◌≤◌, min, Bool, true, false, ◌&&◌, ◌||◌, List, [], ◌∷◌, length, Option, Some, None, refl, ◌∙◌, arith, nat_eq, nat_lt, nat_le}
 use Rattle.std.proofs.lemmas.Bool.Decides.{nat_tests}
-use Rattle.list_laws.proofs.Tests.{by_test, same_bool}
+use Rattle.list_laws.proofs.By_test.{by_test, same_bool}
 use Rattle.track_points.specs.declared.ids.Dir.{Dir}
 use Rattle.track_points.specs.declared.ids.Dir.TheVariants.{Up, Down}
 use Rattle.track_points.specs.declared.ids.DirSeg.{DirSeg}
@@ -9,8 +9,8 @@ use Rattle.track_points.specs.declared.ids.Range.{Range}
 use Rattle.track_points.specs.declared.ids.ZoneId.{ZoneId}
 use Rattle.track_points.specs.Points.{Layout, Point, Cell, Token, mm_at, is_at, cell_at, some_below, has_between}
 use Rattle.track_points.specs.Sets.{Points, held, token_in, in_range, has_cell, set_has, NeedsMoreRanges}
-use Rattle.track_points.proofs.Places.{cell_here, cell_beyond}
-use Rattle.track_points.proofs.Between.{points_found, points_at}
+use Rattle.track_points.proofs.Cell_here.{cell_here, cell_beyond}
+use Rattle.track_points.proofs.Points_found.{points_found, points_at}
 use Rattle.definitions.specs.Track.{Line, seg_len, layout}
 use Rattle.way_laws.proofs.No_throat.{no_token}
 use Rattle.way_path.specs.Ways.{step_has, segment_of, point_of}

@@ -9,7 +9,7 @@ use Rattle.std.proofs.lemmas.List.Quantifiers.{position-Some}
 use Rattle.std.proofs.lemmas.List.Sums.{fails_before_first, prefix_len-le-length}
 use Rattle.std.proofs.lemmas.List.Folds.{list_all-append, position_or_len-set, position_or_len_push}
 use Rattle.std.proofs.lemmas.Bool.{and_parts}
-use Rattle.list_laws.proofs.Tests.{by_test}
+use Rattle.list_laws.proofs.By_test.{by_test}
 use Rattle.definitions.specs.Track.{Line}
 use Rattle.definitions.specs.Premises.{ascending}
 use Rattle.plain_state.specs.declared.WorldTrain.{WorldTrain}

@@ -2,7 +2,7 @@
 use Rattle.std.proofs.Common.{◌≡◌, ℕ, zero, suc, ◌+◌, ◌-◌, ◌<◌, ◌≤◌, ◌^◌, true, false, List, [], ◌∷◌, length, refl, sym, ap, subst, ◌∙◌, arith, nat_eq, nat_le, Option, Some, None}
 use Rattle.std.proofs.lemmas.Bool.Decides.{nat_tests}
 use Rattle.std.specs.Prelude.{is_some}
-use Rattle.list_laws.proofs.Tests.{by_test}
+use Rattle.list_laws.proofs.By_test.{by_test}
 use Rattle.track_points.specs.declared.ids.DirSeg.{DirSeg}
 use Rattle.track_points.specs.Points.{Lengths, total, steps_to}
 use Rattle.definitions.specs.Track.{Line, seg_len, next_step, track_from, track_to}
@@ -10,7 +10,7 @@ use Rattle.definitions.specs.Rules.{is_line}
 use Rattle.definitions.specs.Premises.{on_line}
 use Rattle.definitions.specs.Ways.{front_at}
 use Rattle.plain_state.specs.declared.Head.{Head}
-use Rattle.way_laws.proofs.Lines.{follower_on_line, long_on_line}
+use Rattle.way_laws.proofs.Line_builds.{follower_on_line, long_on_line}
 use Rattle.way_laws.proofs.Track_front.{next_follows}
 use Rattle.way_laws.proofs.Journey_cut.{journey_any}
 use Rattle.world_sim.specs.World.{Reaches, IsHeadOn, moved_to}

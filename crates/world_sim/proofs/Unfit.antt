@@ -1,7 +1,7 @@
 -- An authority that makes no way is none on the line.
 use Rattle.std.proofs.Common.{◌≡◌, ℕ, ◌+◌, false, List, take, drop, refl, Err}
 use Rattle.std.proofs.lemmas.List.{take-append-drop}
-use Rattle.list_laws.proofs.Tests.{by_test}
+use Rattle.list_laws.proofs.By_test.{by_test}
 use Rattle.track_points.specs.declared.ids.DirSeg.{DirSeg}
 use Rattle.track_points.specs.declared.path.Path.{Path}
 use Rattle.track_points.specs.Points.{no_segment_twice}

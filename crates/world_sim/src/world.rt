@@ -5,12 +5,13 @@ ghost use Rattle.std.specs.Option.{option_copied};
 ghost use Rattle.track_points.specs.Points.{end_place};
 ghost use Rattle.definitions.specs.Track.{seg_len};
 ghost use Rattle.definitions.specs.Rules.{is_line};
-ghost use Rattle.definitions.specs.Steps.{nothing, answers, entering, requesting, taking_auth, telling};
+ghost use Rattle.definitions.specs.Steps.{nothing, answers, entering, requesting, taking_auth, telling, hearing_noise};
+ghost use Rattle.definitions.specs.Frames.{frame_at};
 ghost use Rattle.definitions.specs.declared.message.Msg.TheVariants as msg;
 ghost use Rattle.definitions.specs.Premises.{same_portal};
 ghost use Rattle.plain_state.specs.World.{find_train, change_train, facts_found, entry_found, kept_sender, authority_found, head_found, on_found, number_found, mark_of, new_train, asked_at_portal, come_on, moved_train, trains_moved, auth_fits, world_event_effect, world_event_next, world_take_effect, world_take_next};
 ghost use Rattle.plain_state.specs.Plain.{world_start};
-ghost use Rattle.plain_state.specs.Admits.{world_reports, world_moves, world_stops, world_enters, world_premise, can_move_found, may_move_found};
+ghost use Rattle.plain_state.specs.Admits.{world_reports, world_moves, world_stops, world_enters, hears_noise, world_premise, can_move_found, may_move_found};
 ghost use Rattle.world_sim.specs.World.{speed_fits, is_train, ascends, StepFits, IsBuilt, Admits, AllOn, IsWorldOn};
 
 use crate::places::TrainPlaces;
@@ -20,7 +21,7 @@ use definitions::event::Event;
 use definitions::message::Msg;
 use definitions::outcome::{AnswerWord, Outcome};
 use line_map::Line;
-use msg_codec::Outs;
+use msg_codec::{Outs, decode};
 use plain_state::{EntryAuthority, WorldTrain};
 use std::alloc::{AllocError, Global};
 use std::marker::Model;
@@ -124,6 +125,16 @@ fn answer_entry(time: u64, authority: Option<EntryAuthority>, train: TrainId, ou
 {
     if let Some(authority) = authority {
         answer(time, train, authority.zone, 1, outs);
+    }
+}
+
+/// Bytes that an actor is handed change nothing; where they are no frame, their first fault is told.
+fn hear(to: u8, bytes: &[u8], outs: &mut Outs)
+    requires { outs.old ≡ nothing }
+    ensures { outs.new ≡ hearing_noise to (frame_at bytes.now) }
+{
+    if let Err(fault) = decode(bytes) {
+        outs.tell(Outcome::Noise(to, fault));
     }
 }
 
@@ -313,6 +324,16 @@ impl World {
         }
     }
 
+    /// Whether noise is no frame.
+    fn hears_noise(event: &Event) -> bool
+        ensures { result ≡ hears_noise event.now }
+    {
+        match event {
+            Event::Noise(_, _, bytes) => decode(bytes.as_slice()).is_err(),
+            _ => true,
+        }
+    }
+
     /// Whether an event keeps the premises that the world tests; of those that it breaks the least is named. Whether the
     /// message of a take is there is not tested.
     pub fn admits(&self, line: &Line, event: &Event) -> Result<(), Premise>
@@ -329,6 +350,9 @@ impl World {
         }
         if !self.enters_rightly(event) {
             return Err(Premise(5));
+        }
+        if !World::hears_noise(event) {
+            return Err(Premise(6));
         }
         Ok(())
     }
@@ -512,6 +536,7 @@ impl World {
                     train: *train,
                 },
             ),
+            Event::Noise(to, _, bytes) => hear(*to, bytes.as_slice(), outs),
             _ => {}
         }
     }

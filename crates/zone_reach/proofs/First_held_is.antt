@@ -1,12 +1,12 @@
 -- The walks find the first number that passes, from one on.
 use Rattle.std.proofs.Common.{◌≡◌, ℕ, suc, zero, ◌+◌, ◌-◌, ◌<◌, ◌≤◌, min, Bool, true, false, ◌&&◌, ◌||◌, List, [], ◌∷◌, refl, sym, arith, nat_eq, nat_lt, nat_le}
 use Rattle.std.proofs.lemmas.Bool.Decides.{nat_tests}
-use Rattle.list_laws.proofs.Tests.{by_test, same_bool}
+use Rattle.list_laws.proofs.By_test.{by_test, same_bool}
 use Rattle.track_points.specs.declared.ids.Dir.{Dir}
 use Rattle.track_points.specs.declared.ids.Dir.TheVariants.{Up, Down}
 use Rattle.track_points.specs.declared.ids.DirSeg.{DirSeg}
 use Rattle.track_points.specs.Points.{Lengths, Layout, Point, Cell, mm_at, total, some_below, has_between, path_has, end_place}
-use Rattle.track_points.proofs.Some.{some_at, some_found}
+use Rattle.track_points.proofs.Some_found.{some_at, some_found}
 use Rattle.definitions.specs.Track.{Line, seg_len, layout, zone_of}
 use Rattle.definitions.specs.Limit.{on_step, passes}
 use Rattle.plain_state.specs.declared.Controlled.{Controlled}

@@ -4,11 +4,11 @@ use Rattle.std.proofs.lemmas.Bool.Decides.{nat_tests}
 use Rattle.std.proofs.lemmas.Int.{ints}
 use Rattle.std.specs.Prelude.{ℤ, pos, ◌*◌, ◌<ℤ◌, nat_abs}
 use Rattle.std.specs.Int.Signed.{le_z, lt_z}
-use Rattle.list_laws.proofs.Tests.{by_test}
+use Rattle.list_laws.proofs.By_test.{by_test}
 use Rattle.envelope.specs.declared.fronts.Fronts.{Fronts}
 use Rattle.envelope.specs.Fronts.{farthest_move, is_front, grown, kept, IsHull}
 use Rattle.envelope.specs.Ends.{least_left, greatest_left, narrowed}
-use Rattle.envelope.proofs.Rules.{grown_hull, kept_hull, kept_none, are_ends}
+use Rattle.envelope.proofs.Kept_hull.{grown_hull, kept_hull, kept_none, are_ends}
 use Rattle.definitions.specs.Track.{Line}
 use Rattle.plain_state.specs.declared.Controlled.{Controlled}
 use Rattle.plain_state.specs.Zone.{grown_train, narrowed_train}

@@ -2103,7 +2103,135 @@ silent 10
 - 4
 script 12 column 2";
 
-/// All tables.
+/// Bytes that are no frame, markers, and messages that are lost.
+const NOISE: &str = "
+= cut frame as noise is short
++ four segments
+script
+noise 1 0 0103
+- 0
+noise 1 short
+done 1
+= frame with a byte more as noise is long
++ four segments
+script
+noise 1 0 01030000000000002710000700
+- 0
+noise 1 long
+done 1
+= frame with a byte less as noise is short
++ four segments
+script
+noise 1 0 0103000000000000271000
+- 0
+noise 1 short
+done 1
+= noise that is a frame is refused
++ four segments
+script
+noise 1 0 010300000000000027100007
+- 5
+premise 12 P6
+= each fault of noise
++ four segments
+script
+noise 1 0 01
+noise 0 1 02
+noise 0 1 0203
+noise 1 0 0100
+noise 1 0 0111
+noise 1 0 01070000
+noise 0 1 01070007ff00000000000000
+noise 1 0 01030000000000002710
+noise 0 1 010300000000000027100007ff
+- 0
+noise 1 short
+noise 0 version
+noise 0 version
+noise 1 kind
+noise 1 kind
+noise 1 field 2
+noise 0 field 4
+noise 1 short
+noise 0 long
+done 9
+= noise changes nothing
++ four segments
++ asks for entry
+noise 1 0 0103
+noise 0 1 00
+deliver 1
+deliver 0
+enter 7
+- 0
+noise 1 short
+noise 0 version
+entry 1 7 1
+answer 7 1 taken
+done 7
+= a delivery passes over what is lost
++ four segments
++ asks for entry
+entry 7 1+
+lost 0 1 1
+deliver 1
+take 1 0 1
+deliver 1
+- 0
+entry 1 7 1
+noentry 1 7 known
+done 7
+= a message named lost before it is sent
++ four segments
+script
+train 7 60000 2000 20000 eq
+lost 0 1 1
+entry 7 1+
+deliver 1
+take 1 0 1
+- 0
+entry 1 7 1
+done 5
+= an authority that is lost
++ four segments
++ asks for entry
+take 1 0 1
+lost 1 0 1
+deliver 0
+enter 7
+- 5
+entry 1 7 1
+premise 17 P5
+= losses of messages that are never sent
++ four segments
++ asks for entry
+lost 0 1 2
+lost 1 0 1
+lost 0 1 200001
+lost 1 0 4294967295
+deliver 1
+- 0
+entry 1 7 1
+done 7
+= a loss on no link
++ four segments
+script
+lost 0 0 5
+- 4
+script 12 column 8
+= markers
++ four segments
+script
+round 1
+round 2000
+- 0
+done 2
+= a marker of no round
++ four segments
+script
+round 0
+- 4
+script 12 column 7";
 
 /// Documents that are checked, and what stands in a check as in a run.
 const CHECKS: &str = "= check drops comments and blank lines
@@ -2174,16 +2302,31 @@ unbuilt 11
 plan
 - 4
 script 11 column 1
-= noise is not built
+= noise, markers and losses in a check
 + four segments
 script
-noise 1 0 00
+noise 1 0 0103
+noise 1 0 010300000000000027100007
+round 1
+lost 0 1 9
+* 0
++ four segments
+script
+noise 1 0 0103
+noise 1 0 010300000000000027100007
+round 1
+lost 0 1 9
+done 4
+= leave is not built, whatever it names
++ four segments
+script
+leave 9
 - 10
 unbuilt 12
-= noise is not built in a check
+= keepfail is not built in a check
 + four segments
 script
-noise 1 0 00
+keepfail 1 old
 * 10
 + four segments
 script
@@ -2241,10 +2384,11 @@ take 2 2 1
 - 4
 script 12 column 6";
 
+/// All tables.
 pub const TABLES: &[&str] = &[
     WORKED, RULES, TEXTS, MESSAGES, SEVERAL, MOTION, PREMISES, REPORTS, SILENCE, DELIVERIES, FORMS,
-    CHECKS,
+    NOISE, CHECKS,
 ];
 
 /// How many rows stand in them.
-pub const ROWS: u32 = 178;
+pub const ROWS: u32 = 192;

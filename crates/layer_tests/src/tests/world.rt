@@ -1,4 +1,4 @@
-//! A train from its declaration on: it asks for entry, comes on, reports, and moves.
+//! A train from its declaration on: it asks for entry, comes on, reports, and moves; and noise.
 ghost use Rattle.std.specs.Prelude.{◌≡◌, true, length, IfOk};
 ghost use Rattle.definitions.specs.Rules.{is_line};
 ghost use Rattle.definitions.specs.Premises.{ascending};
@@ -9,7 +9,7 @@ use arrayvec::ArrayVec;
 use definitions::event::{Event, Kind};
 use definitions::message::Msg;
 use line_map::Line;
-use msg_codec::Outs;
+use msg_codec::{FrameFault, Outcome, Outs};
 use std::alloc::{AllocError, Global};
 use std::process::Abort;
 use track_points::{DirSeg, TrainId, ZoneId};
@@ -138,6 +138,26 @@ fn moves_on(rt: &impl Abort, world: &mut World, line: &Line, outs: &mut Outs)
     assert!(rt; world.clock() == 30 && place_of(world) == Some((1000, 300)));
 }
 
+fn noise(bytes: &[u8]) -> Event {
+    let mut list = ArrayVec::new();
+    let _ = list.try_extend_from_slice(bytes);
+    Event::Noise(3, 0, list)
+}
+
+/// Noise tells its first fault; a frame is none. A marker and a loss do nothing.
+fn hears_noise(rt: &impl Abort, world: &mut World, line: &Line, outs: &mut Outs)
+    requires { IsWorldOn line.now world.old }
+    ensures { IsWorldOn line.now world.new }
+{
+    assert!(rt; go(rt, world, line, &noise(&[2]), outs) == 0);
+    let told = matches!(outs.lines(), [Outcome::Noise(3, FrameFault::Version)]);
+    assert!(rt; told);
+    let time = [1, 3, 0, 0, 0, 0, 0, 0, 0, 30, 0, 7];
+    assert!(rt; go(rt, world, line, &noise(&time), outs) == 106);
+    assert!(rt; go(rt, world, line, &Event::Round(1), outs) == 0 && outs.lines().is_empty());
+    assert!(rt; go(rt, world, line, &Event::Lost(0, 3, 1), outs) == 0 && outs.lines().is_empty());
+}
+
 #[test]
 fn a_train_comes_on_and_moves(rt: HostRuntime) {
     let Ok(line) = line_of(rt.alloc()) else {
@@ -152,4 +172,5 @@ fn a_train_comes_on_and_moves(rt: HostRuntime) {
     asks_for_entry(&rt, &mut world, &line, &mut outs);
     comes_on(&rt, &mut world, &line, &mut outs);
     moves_on(&rt, &mut world, &line, &mut outs);
+    hears_noise(&rt, &mut world, &line, &mut outs);
 }

@@ -1,6 +1,6 @@
 use Rattle.std.proofs.Common.{arith, ◌-◌, ◌<◌, length, refl}
 use Rattle.std.proofs.lemmas.Bool.Decides.{nat_tests}
-use Rattle.form_codec.proofs.Putting.{put_groups}
+use Rattle.form_codec.proofs.Put_groups.{put_groups}
 use Rattle.form_codec.proofs.read.+groups.Goals as goal
 
 pub returns-in-Ok : goal.returns-in-Ok

@@ -1,5 +1,5 @@
 use Rattle.std.proofs.Common.{arith, ◌≤◌, length, get_or}
-use Rattle.form_codec.proofs.Coded.{part_err, part_ok}
+use Rattle.form_codec.proofs.Put_code.{part_err, part_ok}
 use Rattle.text_forms.specs.declared.part.Part.TheVariants.{Number}
 use Rattle.form_codec.proofs.read.+parts_left.Goals as goal
 

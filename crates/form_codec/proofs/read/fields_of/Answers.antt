@@ -1,6 +1,6 @@
 use Rattle.std.proofs.Common.{arith, ◌≤◌, get_or, sym, subst}
 use Rattle.form_codec.specs.Sees.{PutAll}
-use Rattle.form_codec.proofs.Rows.{row_fields, row_room, room_of, no_row}
+use Rattle.form_codec.proofs.Row_some.{row_fields, row_room, room_of, no_row}
 use Rattle.form_codec.proofs.read.fields_of.Goals as goal
 
 pub fields-requires : goal.fields-requires

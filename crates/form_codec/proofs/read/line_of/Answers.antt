@@ -1,5 +1,5 @@
 use Rattle.std.proofs.Common.{arith}
-use Rattle.form_codec.proofs.Rows.{word_below, words_length}
+use Rattle.form_codec.proofs.Row_some.{word_below, words_length}
 use Rattle.form_codec.proofs.read.line_of.Goals as goal
 
 pub fields_of-requires-clause-below : goal.fields_of-requires-clause-below

@@ -1,4 +1,4 @@
-use Rattle.form_codec.proofs.Coded.{put_code}
+use Rattle.form_codec.proofs.Put_code.{put_code}
 use Rattle.form_codec.proofs.read.parts_of.Goals as goal
 
 pub returns-then-code-eq0-clause-read : goal.returns-then-code-eq0-clause-read

@@ -1,9 +1,9 @@
 use Rattle.std.proofs.Common.{arith, ap, Ok}
 use Rattle.text_forms.specs.Forms.{IsText}
 use Rattle.text_forms.specs.Rows.{forms}
-use Rattle.form_codec.proofs.Columns.{refusal_one, refused_not}
-use Rattle.form_codec.proofs.Rows.{ok_only, ok_said, err_left, err_never, err_refused, err_long, long_refused}
-use Rattle.form_codec.proofs.Telling.{form_taken, form_refused}
+use Rattle.form_codec.proofs.Refused_one.{refusal_one, refused_not}
+use Rattle.form_codec.proofs.Row_some.{ok_only, ok_said, err_left, err_never, err_refused, err_long, long_refused}
+use Rattle.form_codec.proofs.Form_taken.{form_taken, form_refused}
 use Rattle.form_codec.proofs.read.read_line.Goals as goal
 
 pub overflow_sub-column : goal.overflow_sub-column

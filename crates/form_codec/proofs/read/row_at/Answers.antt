@@ -1,4 +1,4 @@
-use Rattle.form_codec.proofs.Rows.{row_within, row_some, row_none}
+use Rattle.form_codec.proofs.Row_some.{row_within, row_some, row_none}
 use Rattle.form_codec.proofs.read.row_at.Goals as goal
 
 pub split_at-requires : goal.split_at-requires

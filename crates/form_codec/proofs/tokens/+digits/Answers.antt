@@ -1,5 +1,5 @@
 use Rattle.std.proofs.Common.{arith, lit<}
-use Rattle.form_codec.proofs.Number_fits.{digit_fits, digit_small, most_small}
+use Rattle.form_codec.proofs.Most_small.{digit_fits, digit_small, most_small}
 use Rattle.form_codec.proofs.tokens.+digits.Goals as goal
 
 pub overflow_mul-so_far : goal.overflow_mul-so_far

@@ -1,5 +1,5 @@
 use Rattle.std.proofs.Common.{arith}
-use Rattle.form_codec.proofs.Finding.{unpacked, pair_of}
+use Rattle.form_codec.proofs.Unpacked.{unpacked, pair_of}
 use Rattle.form_codec.proofs.tokens.digits_of.Goals as goal
 
 pub split_at-requires : goal.split_at-requires

@@ -1,4 +1,4 @@
-use Rattle.form_codec.proofs.Finding.{word_within, word_some, word_none}
+use Rattle.form_codec.proofs.Unpacked.{word_within, word_some, word_none}
 use Rattle.form_codec.proofs.words.word.Goals as goal
 
 pub split_at-requires : goal.split_at-requires

@@ -1,8 +1,8 @@
 use Rattle.std.proofs.Common.{List, ℕ, Err, subst, sym, arith}
 use Rattle.edge_io.specs.Writing.{Wrote}
-use Rattle.edge_io.proofs.Wrote.{then, stop}
+use Rattle.edge_io.proofs.Wrote_then.{then, stop}
 use Rattle.text_forms.specs.declared.part.Part.TheVariants.{Number}
-use Rattle.form_codec.proofs.Texts.{text_none, text_some, never_none}
+use Rattle.form_codec.proofs.Spelling_one.{text_none, text_some, never_none}
 use Rattle.form_codec.proofs.write.+write_values.Goals as goal
 
 pub returns-in_default : goal.returns-in_default

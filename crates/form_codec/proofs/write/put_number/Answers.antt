@@ -1,7 +1,7 @@
 use Rattle.std.proofs.Common.{◌≡◌, ◌≤◌, ◌∙◌, ap, arith, length, ◌++◌}
 use Rattle.std.proofs.lemmas.Fmt.{length-decimal-le}
 use Rattle.std.specs.Fmt.{decimal}
-use Rattle.form_codec.proofs.Texts.{on_ok}
+use Rattle.form_codec.proofs.Spelling_one.{on_ok}
 use Rattle.form_codec.proofs.write.put_number.Goals as goal
 
 pub returns : goal.returns

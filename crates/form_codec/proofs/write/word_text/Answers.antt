@@ -1,7 +1,7 @@
 use Rattle.std.proofs.Common.{◌≡◌, ◌≤◌, ℕ, List, [], length, get_or, refl, sym, ap, subst, ◌∙◌}
 use Rattle.text_forms.specs.Forms.{words_of}
-use Rattle.form_codec.proofs.Finding.{texts_at, no_word}
-use Rattle.form_codec.proofs.Word_sets.{word_short}
+use Rattle.form_codec.proofs.Unpacked.{texts_at, no_word}
+use Rattle.form_codec.proofs.Word_short.{word_short}
 use Rattle.form_codec.proofs.write.word_text.Goals as goal
 
 pub returns-clause-short : goal.returns-clause-short

@@ -1,4 +1,4 @@
-use Rattle.edge_io.proofs.Wrote.{then, stop}
+use Rattle.edge_io.proofs.Wrote_then.{then, stop}
 use Rattle.form_codec.specs.Writing.{text_on}
 use Rattle.form_codec.proofs.write.write_form.Goals as goal
 

@@ -1,7 +1,7 @@
 use Rattle.std.proofs.Common.{List, ℕ, subst, sym, arith}
 use Rattle.edge_io.specs.Writing.{Wrote}
-use Rattle.form_codec.proofs.Rows.{no_row}
-use Rattle.form_codec.proofs.Texts.{row_written, row_below}
+use Rattle.form_codec.proofs.Row_some.{no_row}
+use Rattle.form_codec.proofs.Spelling_one.{row_written, row_below}
 use Rattle.form_codec.proofs.write.write_line.Goals as goal
 
 pub bounds-rows-form : goal.bounds-rows-form

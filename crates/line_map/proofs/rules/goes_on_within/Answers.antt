@@ -1,5 +1,5 @@
 use Rattle.std.proofs.Common.{sym}
-use Rattle.line_map.proofs.Once.{goes_on}
+use Rattle.line_map.proofs.Follows_is.{goes_on}
 use Rattle.line_map.proofs.rules.goes_on_within.Goals as goal
 
 pub returns : goal.returns

@@ -1,4 +1,4 @@
-use Rattle.line_system.proofs.Links.{ends_below, goes_above, all_above}
+use Rattle.line_system.proofs.All_posted.{ends_below, goes_above, all_above}
 use Rattle.line_system.proofs.state.are_ascending.Goals as goal
 
 pub returns-then-next-last : goal.returns-then-next-last

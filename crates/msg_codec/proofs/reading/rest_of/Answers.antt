@@ -1,5 +1,5 @@
 use Rattle.std.proofs.Common.{◌+◌, length, arith, refl}
-use Rattle.msg_codec.proofs.Whole.{is_placed}
+use Rattle.msg_codec.proofs.Frame_again.{is_placed}
 use Rattle.msg_codec.proofs.reading.rest_of.Goals as goal
 
 pub fault_of-requires : goal.fault_of-requires

@@ -1,7 +1,7 @@
 use Rattle.std.proofs.Common.{List, ℕ, Err, subst, sym}
 use Rattle.edge_io.specs.Writing.{Wrote}
-use Rattle.edge_io.proofs.Wrote.{then, stop}
-use Rattle.outcome_text.proofs.Part_texts.{parts_none, parts_first}
+use Rattle.edge_io.proofs.Wrote_then.{then, stop}
+use Rattle.outcome_text.proofs.Parts_first.{parts_none, parts_first}
 use Rattle.outcome_text.proofs.ending.+write_parts.Goals as goal
 
 pub returns-in-empty : goal.returns-in-empty

@@ -1,5 +1,5 @@
 use Rattle.outcome_text.specs.Parts.{parts_text}
-use Rattle.edge_io.proofs.Wrote.{then, stop}
+use Rattle.edge_io.proofs.Wrote_then.{then, stop}
 use Rattle.outcome_text.proofs.ending.write_line.Goals as goal
 
 pub returns-in-Ok : goal.returns-in-Ok

@@ -1,5 +1,5 @@
 use Rattle.std.specs.Fmt.{decimal}
-use Rattle.edge_io.proofs.Wrote.{then, stop}
+use Rattle.edge_io.proofs.Wrote_then.{then, stop}
 use Rattle.outcome_text.proofs.ending.write_named.Goals as goal
 
 pub returns-in-Ok : goal.returns-in-Ok

@@ -1,8 +1,8 @@
 use Rattle.std.proofs.Common.{ℕ, List, ◌∙◌, codes}
-use Rattle.edge_io.proofs.Wrote.{then, stop}
+use Rattle.edge_io.proofs.Wrote_then.{then, stop}
 use Rattle.definitions.specs.declared.outcome.Outcome.{Outcome}
 use Rattle.definitions.specs.OutcomeText.{outcome_text, outcome_forms, outcome_place, outcome_values, plain_text}
-use Rattle.outcome_text.proofs.Plain.{says_at}
+use Rattle.outcome_text.proofs.Says_at.{says_at}
 use Rattle.outcome_text.proofs.outcome.write_outcome.Goals as goal
 
 abbrev said : Outcome → List ℕ

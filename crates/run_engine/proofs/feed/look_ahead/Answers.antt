@@ -2,7 +2,7 @@ use Rattle.std.proofs.Common.{◌≡◌, ℕ, List, false, length, subst, arith}
 use Rattle.std.proofs.lemmas.List.{take_all}
 use Rattle.std.proofs.lemmas.Bool.{eqb-true}
 use Rattle.byte_feed.specs.Feed.{ends_lf}
-use Rattle.byte_feed.proofs.Runs.{no_lf_below}
+use Rattle.byte_feed.proofs.Leads_run.{no_lf_below}
 use Rattle.run_engine.proofs.feed.look_ahead.Goals as goal
 
 pub returns-then-at-left : goal.returns-then-at-left

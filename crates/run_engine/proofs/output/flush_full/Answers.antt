@@ -1,5 +1,5 @@
 use Rattle.std.proofs.Common.{refl}
-use Rattle.run_engine.proofs.Sending.{nothing, emptied, not_emptied}
+use Rattle.run_engine.proofs.Other_text.{nothing, emptied, not_emptied}
 use Rattle.run_engine.proofs.output.flush_full.Goals as goal
 
 pub returns-then-len-lt-PIECE : goal.returns-then-len-lt-PIECE

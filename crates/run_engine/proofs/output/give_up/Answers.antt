@@ -1,4 +1,4 @@
-use Rattle.run_engine.proofs.Sending.{gives_write, gives_memory, gives_failed}
+use Rattle.run_engine.proofs.Other_text.{gives_write, gives_memory, gives_failed}
 use Rattle.run_engine.proofs.output.give_up.Goals as goal
 
 pub returns-in-Write : goal.returns-in-Write

@@ -1,7 +1,7 @@
 use Rattle.std.proofs.Common.{sym, ap}
 use Rattle.run_engine.specs.declared.reads.Reads.{Reads}
 use Rattle.run_engine.specs.Reads.{again_by}
-use Rattle.run_engine.proofs.Sending.{nothing, then, stop, other_text}
+use Rattle.run_engine.proofs.Other_text.{nothing, then, stop, other_text}
 use Rattle.run_engine.proofs.output.send_again.Goals as goal
 
 pub returns-in-Ok : goal.returns-in-Ok

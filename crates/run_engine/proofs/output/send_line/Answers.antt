@@ -1,6 +1,6 @@
 use Rattle.std.proofs.Common.{[], append-nil}
 use Rattle.definitions.specs.OutcomeText.{outcome_text}
-use Rattle.run_engine.proofs.Sending.{then, other_text, buffered, buffer_full}
+use Rattle.run_engine.proofs.Other_text.{then, other_text, buffered, buffer_full}
 use Rattle.run_engine.proofs.output.send_line.Goals as goal
 
 pub returns-in-Ok : goal.returns-in-Ok

@@ -1,6 +1,6 @@
 use Rattle.std.proofs.Common.{refl}
-use Rattle.run_engine.proofs.Sending.{nothing, then, stop, other_text}
-use Rattle.run_engine.proofs.Line_texts.{lines_more, lines_left}
+use Rattle.run_engine.proofs.Other_text.{nothing, then, stop, other_text}
+use Rattle.run_engine.proofs.Lines_more.{lines_more, lines_left}
 use Rattle.run_engine.proofs.output.send_lines.Goals as goal
 
 pub loop-outcome-init : goal.loop-outcome-init

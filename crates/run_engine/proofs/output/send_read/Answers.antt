@@ -1,4 +1,4 @@
-use Rattle.run_engine.proofs.Sending.{then, stop}
+use Rattle.run_engine.proofs.Other_text.{then, stop}
 use Rattle.run_engine.proofs.output.send_read.Goals as goal
 
 pub returns-in-Ok : goal.returns-in-Ok

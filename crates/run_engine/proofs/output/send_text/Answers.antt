@@ -1,5 +1,5 @@
 use Rattle.std.proofs.Common.{[], append-nil}
-use Rattle.run_engine.proofs.Sending.{then, other_text, buffered, buffer_full}
+use Rattle.run_engine.proofs.Other_text.{then, other_text, buffered, buffer_full}
 use Rattle.run_engine.proofs.output.send_text.Goals as goal
 
 pub returns-in-Ok : goal.returns-in-Ok

@@ -1,4 +1,4 @@
-use Rattle.run_engine.proofs.Completing.{complete_check, refuses_check}
+use Rattle.run_engine.proofs.All_safe.{complete_check, refuses_check}
 use Rattle.run_engine.proofs.pump.check.Goals as goal
 
 pub returns-clause-complete : goal.returns-clause-complete

@@ -1,4 +1,4 @@
-use Rattle.run_engine.proofs.Running.{run_nothing}
+use Rattle.run_engine.proofs.Midway_more.{run_nothing}
 use Rattle.run_engine.proofs.pump.give.Goals as goal
 
 pub returns-in-Err-clause-ran : goal.returns-in-Err-clause-ran

@@ -1,8 +1,8 @@
 use Rattle.std.proofs.Common.{◌∙◌, refl, ap, sym, arith}
 use Rattle.byte_feed.specs.Feed.{feds, feds_text}
 use Rattle.run_engine.specs.Feeding.{feed_shown}
-use Rattle.run_engine.proofs.Doing.{told_ok, told_front, told_cause}
-use Rattle.run_engine.proofs.Running.{midway_start, midway_more, midway_fails, midway_stays, midway_cut, midway_end, midway_over, not_stopped, counts}
+use Rattle.run_engine.proofs.Told_front.{told_ok, told_front, told_cause}
+use Rattle.run_engine.proofs.Midway_more.{midway_start, midway_more, midway_fails, midway_stays, midway_cut, midway_end, midway_over, not_stopped, counts}
 use Rattle.run_engine.proofs.pump.pump.Goals as goal
 
 pub returns-then-is_over-clause-pumped : goal.returns-then-is_over-clause-pumped

@@ -1,4 +1,4 @@
-use Rattle.run_engine.proofs.Completing.{complete, refuses}
+use Rattle.run_engine.proofs.All_safe.{complete, refuses}
 use Rattle.run_engine.proofs.pump.run.Goals as goal
 
 pub returns-clause-complete : goal.returns-clause-complete

@@ -1,7 +1,7 @@
 use Rattle.std.proofs.Common.{◌∙◌, refl, sym}
-use Rattle.run_engine.proofs.Doing.{told_ok, told_front, told_cause}
-use Rattle.run_engine.proofs.Running.{run_whole, run_front, run_cut, run_stopped, fault_uncut, end_uncut, cut_causes, end_causes}
-use Rattle.run_engine.proofs.Going.{done_only}
+use Rattle.run_engine.proofs.Told_front.{told_ok, told_front, told_cause}
+use Rattle.run_engine.proofs.Midway_more.{run_whole, run_front, run_cut, run_stopped, fault_uncut, end_uncut, cut_causes, end_causes}
+use Rattle.run_engine.proofs.Never_done.{done_only}
 use Rattle.run_engine.proofs.pump.run_from.Goals as goal
 
 pub returns-in-Ok-end-clause-ran : goal.returns-in-Ok-end-clause-ran

@@ -1,11 +1,14 @@
-use Rattle.run_engine.proofs.Stages.{ends_read, goes_read}
+use Rattle.run_engine.proofs.Goes_read.{ends_read, goes_read}
 use Rattle.run_engine.proofs.stage.run_event.Goals as goal
 
 pub returns-in-TooMany : goal.returns-in-TooMany
 returns-in-TooMany c = λ text. let l = (rw c.in-TooMany.is at c.in_ok-read.ensures).1 c.args.n in ends_read _ c.args.count.now c.args.system.now c.read.new.self _ _ _ _ c.requires.empty l text _ l.ending
 
-pub returns-in-Full : goal.returns-in-Full
-returns-in-Full c = λ text. let l = (rw c.in-Full.is at c.in_ok-read.ensures).1 c.args.n in ends_read _ c.args.count.now c.args.system.now c.read.new.self _ _ _ _ c.requires.empty l text _ l.ending
+pub returns-in-Events : goal.returns-in-Events
+returns-in-Events c = λ text. let l = (rw c.in-Events.is at c.in_ok-read.ensures).1 c.args.n in ends_read _ c.args.count.now c.args.system.now c.read.new.self _ _ _ _ c.requires.empty l text _ l.ending
+
+pub returns-in-Messages : goal.returns-in-Messages
+returns-in-Messages c = λ text. let l = (rw c.in-Messages.is at c.in_ok-read.ensures).1 c.args.n in ends_read _ c.args.count.now c.args.system.now c.read.new.self _ _ _ _ c.requires.empty l text _ l.ending
 
 pub returns-in-Premise : goal.returns-in-Premise
 returns-in-Premise c = λ text. let l = (rw c.in-Premise.is at c.in_ok-read.ensures).1 c.args.n in ends_read _ c.args.count.now c.args.system.now c.read.new.self _ _ _ _ c.requires.empty l text _ l.ending

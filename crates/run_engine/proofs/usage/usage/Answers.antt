@@ -1,5 +1,5 @@
 use Rattle.std.proofs.Common.{refl}
-use Rattle.run_engine.proofs.Doing.{whole, part}
+use Rattle.run_engine.proofs.Told_front.{whole, part}
 use Rattle.run_engine.proofs.usage.usage.Goals as goal
 
 pub returns-in-Ok-clause-gave : goal.returns-in-Ok-clause-gave

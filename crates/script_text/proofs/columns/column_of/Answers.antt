@@ -1,5 +1,5 @@
 use Rattle.std.proofs.Common.{arith, ◌+◌, sym, subst}
-use Rattle.script_text.proofs.Field_columns.{Counts, counts_none, counts_space, counts_other, counts_found, counts_end}
+use Rattle.script_text.proofs.Counts_found.{Counts, counts_none, counts_space, counts_other, counts_found, counts_end}
 use Rattle.script_text.proofs.columns.column_of.Goals.{then-byte-eq32, else-byte-eq32, else-loop-byte-test, then-loop-byte-test+then-left-eq0}
 use Rattle.script_text.proofs.columns.column_of.Goals as goal
 

@@ -1,4 +1,4 @@
-use Rattle.script_text.proofs.Field_columns.{Counts}
+use Rattle.script_text.proofs.Counts_found.{Counts}
 use Rattle.script_text.proofs.columns.column_of.Given as goal
 
 abbrev pub invariant-loop-byte : goal.invariant-loop-byte

@@ -1,7 +1,7 @@
 use Rattle.std.proofs.Common.{◌+◌, ◌-◌, subst, arith, slice_index_or}
 use Rattle.definitions.specs.EventFields.{moves_of}
 use Rattle.script_text.specs.Sees.{Puts}
-use Rattle.script_text.proofs.Adding.{moves_put, later_all}
+use Rattle.script_text.proofs.Moves_put.{moves_put, later_all}
 use Rattle.script_text.proofs.fields.+add_moves.Goals as goal
 
 pub returns-else-mm-gt3600000 : goal.returns-else-mm-gt3600000

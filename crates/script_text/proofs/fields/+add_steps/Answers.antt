@@ -1,7 +1,7 @@
 use Rattle.std.proofs.Common.{◌+◌, subst}
 use Rattle.definitions.specs.EventFields.{asked_of}
 use Rattle.script_text.specs.Sees.{PutsAsked}
-use Rattle.script_text.proofs.Adding.{asked_put, later_all}
+use Rattle.script_text.proofs.Moves_put.{asked_put, later_all}
 use Rattle.script_text.proofs.fields.+add_steps.Goals as goal
 
 pub returns-else-not-is_segment : goal.returns-else-not-is_segment

@@ -1,5 +1,5 @@
 use Rattle.std.proofs.Common.{◌∙◌, ap}
-use Rattle.script_text.proofs.Making.{ask_here, lent}
+use Rattle.script_text.proofs.Lent_moves.{ask_here, lent}
 use Rattle.script_text.proofs.fields.ask.Goals as goal
 
 pub returns-in-0 : goal.returns-in-0

@@ -1,5 +1,5 @@
 use Rattle.std.proofs.Common.{refl, ap, ◌∙◌}
-use Rattle.script_text.proofs.Making.{step_here, lent_moves}
+use Rattle.script_text.proofs.Lent_moves.{step_here, lent_moves}
 use Rattle.script_text.proofs.fields.step.Goals as goal
 
 pub returns-in-0 : goal.returns-in-0

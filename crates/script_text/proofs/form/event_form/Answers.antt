@@ -1,7 +1,7 @@
 use Rattle.std.proofs.Common.{ap, ◌∙◌}
 use Rattle.text_forms.specs.Tables.{has_room, is_table}
-use Rattle.script_text.proofs.Good_table.{event_table, event_room}
-use Rattle.script_text.proofs.Reading.{refused_at, rows_refuse}
+use Rattle.script_text.proofs.Event_table.{event_table, event_room}
+use Rattle.script_text.proofs.Event_said.{refused_at, rows_refuse}
 use Rattle.script_text.proofs.form.event_form.Goals as goal
 
 pub read_line-requires-clause-room : goal.read_line-requires-clause-room

@@ -1,8 +1,8 @@
 use Rattle.std.proofs.Common.{ℕ, List, Err, sym, subst}
 use Rattle.definitions.specs.EventFields.{event_of}
 use Rattle.script_text.specs.Sees.{HasRoom, Makes}
-use Rattle.script_text.proofs.Event_values.{event_fits}
-use Rattle.script_text.proofs.Reading.{makes_column}
+use Rattle.script_text.proofs.Event_made.{event_fits}
+use Rattle.script_text.proofs.Event_said.{makes_column}
 use Rattle.script_text.proofs.form.put_event.Goals as goal
 
 pub event_of-requires : goal.event_of-requires

@@ -2,7 +2,7 @@ use Rattle.std.proofs.Common.{Ok, ap, inr}
 use Rattle.definitions.specs.EventText.{event_place, event_values}
 use Rattle.definitions.specs.EventFields.{event_of}
 use Rattle.script_text.specs.Trains.{numbers}
-use Rattle.script_text.proofs.Reading.{made_event, made_refused, at_event, at_field, at_refused, event_said, some_only, some_field, field_only, field_one, text_not, field_not, refused_same}
+use Rattle.script_text.proofs.Event_said.{made_event, made_refused, at_event, at_field, at_refused, event_said, some_only, some_field, field_only, field_one, text_not, field_not, refused_same}
 use Rattle.script_text.proofs.read.read_event.Goals as goal
 
 pub returns-in-Event-clause-read : goal.returns-in-Event-clause-read

@@ -1,5 +1,5 @@
 use Rattle.std.proofs.Common.{sym}
-use Rattle.line_index.proofs.Noting.{can_note, tells_more}
+use Rattle.line_index.proofs.Tells_more.{can_note, tells_more}
 use Rattle.line_index.proofs.index.LineIndex.add.Goals as goal
 
 pub note-requires-clause-can : goal.note-requires-clause-can

@@ -1,5 +1,5 @@
 use Rattle.std.proofs.Common.{◌∙◌}
-use Rattle.line_index.proofs.Noting.{length_told}
+use Rattle.line_index.proofs.Tells_more.{length_told}
 use Rattle.line_index.proofs.index.LineIndex.length_of.Goals as goal
 
 pub returns : goal.returns

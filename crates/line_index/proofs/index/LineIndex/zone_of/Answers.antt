@@ -1,5 +1,5 @@
 use Rattle.std.proofs.Common.{◌∙◌}
-use Rattle.line_index.proofs.Noting.{zone_told}
+use Rattle.line_index.proofs.Tells_more.{zone_told}
 use Rattle.line_index.proofs.index.LineIndex.zone_of.Goals as goal
 
 pub returns : goal.returns

@@ -1,5 +1,5 @@
 use Rattle.std.proofs.Common.{refl}
-use Rattle.line_index.proofs.Noting.{tells_none}
+use Rattle.line_index.proofs.Tells_more.{tells_none}
 use Rattle.line_index.proofs.notes.Notes.new.Goals as goal
 
 pub returns : goal.returns

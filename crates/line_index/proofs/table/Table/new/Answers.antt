@@ -1,5 +1,5 @@
 use Rattle.std.proofs.Common.{refl}
-use Rattle.line_index.proofs.Slots.{fresh}
+use Rattle.line_index.proofs.All_same.{fresh}
 use Rattle.line_index.proofs.table.Table.new.Goals as goal
 
 pub returns : goal.returns

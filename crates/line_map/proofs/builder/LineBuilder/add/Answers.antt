@@ -1,5 +1,5 @@
 use Rattle.std.proofs.Common.{sym, ◌∙◌}
-use Rattle.line_map.proofs.Valid.{builds_either}
+use Rattle.line_map.proofs.Segment_ok.{builds_either}
 use Rattle.line_map.proofs.builder.LineBuilder.add.Goals as goal
 
 pub invariant_of-self : goal.invariant_of-self

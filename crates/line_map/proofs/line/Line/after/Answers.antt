@@ -2,8 +2,8 @@ use Rattle.std.proofs.Common.{◌≡◌, sym, subst}
 use Rattle.definitions.specs.Track.{exit_of, next_step}
 use Rattle.line_map.specs.declared.line.After.{After}
 use Rattle.line_map.specs.Next.{after_of, AfterIs}
-use Rattle.line_map.proofs.Following.{next_after}
-use Rattle.line_map.proofs.Once.{after_is, use_fits}
+use Rattle.line_map.proofs.Next_after.{next_after}
+use Rattle.line_map.proofs.Follows_is.{after_is, use_fits}
 use Rattle.line_map.proofs.line.Line.after.Goals as goal
 
 pub leads_to-requires : goal.leads_to-requires

@@ -1,6 +1,6 @@
 use Rattle.std.proofs.Common.{sym, ◌∙◌}
-use Rattle.line_map.proofs.Valid.{portal_declared}
-use Rattle.line_map.proofs.Once.{begins_is}
+use Rattle.line_map.proofs.Segment_ok.{portal_declared}
+use Rattle.line_map.proofs.Follows_is.{begins_is}
 use Rattle.line_map.proofs.line.Line.begins_at_portal.Goals as goal
 
 pub returns-clause-begins : goal.returns-clause-begins

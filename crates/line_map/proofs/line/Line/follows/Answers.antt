@@ -1,5 +1,5 @@
 use Rattle.std.proofs.Common.{sym}
-use Rattle.line_map.proofs.Once.{follows_is}
+use Rattle.line_map.proofs.Follows_is.{follows_is}
 use Rattle.line_map.proofs.line.Line.follows.Goals as goal
 
 pub returns : goal.returns

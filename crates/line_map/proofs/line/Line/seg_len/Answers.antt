@@ -1,5 +1,5 @@
 use Rattle.std.proofs.Common.{sym, arith}
-use Rattle.line_map.proofs.Valid.{segment_ok}
+use Rattle.line_map.proofs.Segment_ok.{segment_ok}
 use Rattle.line_map.proofs.line.Line.seg_len.Goals as goal
 
 pub overflow_cast-result : goal.overflow_cast-result

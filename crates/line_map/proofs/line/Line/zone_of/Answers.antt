@@ -1,6 +1,6 @@
 use Rattle.std.proofs.Common.{sym, arith}
 use Rattle.definitions.specs.Track.{zone_of}
-use Rattle.line_map.proofs.Valid.{segment_ok, zone_ok}
+use Rattle.line_map.proofs.Segment_ok.{segment_ok, zone_ok}
 use Rattle.line_map.proofs.line.Line.zone_of.Goals as goal
 
 pub overflow_cast-result : goal.overflow_cast-result

@@ -1,62 +1,42 @@
-use Rattle.std.proofs.Common.{◌≡◌, ℕ, ◌<◌, ◌≤◌, ◌+◌, ◌-◌, ◌∙◌, min, sym, ap, arith}
-use Rattle.definitions.specs.Steps.{takes_from}
-use Rattle.line_system.proofs.All_answers.{delivered_full, delivered_whole}
-use Rattle.line_system.proofs.Delivering.{midway_start, midway_next, midway_keeps, midway_end, midway_few}
+use Rattle.std.proofs.Common.{◌∙◌, sym, refl}
+use Rattle.definitions.specs.declared.document.Ending.TheVariants as ends
+use Rattle.definitions.specs.Steps.{story_of}
+use Rattle.line_system.specs.declared.system.Answer.TheVariants.{Events, Messages, Goes}
+use Rattle.line_system.proofs.All_answers.{events_full, messages_full, has_room}
+use Rattle.line_system.proofs.Between_takes.{between_start, between_passes, between_keeps, between_takes, between_stops, between_ends}
 use Rattle.line_system.proofs.system.System.deliver.Goals as goal
-
-none_made : (taken count : ℕ) → taken ≤ taken + count
-none_made taken count = omega arith
-
-below : (taken sent due room count number : ℕ) → due ≡ sent - taken → count ≡ min due room → number < taken + count → taken ≤ number → number < sent
-below taken sent due room count number d c lt le = omega arith
-
-next_within : (number most : ℕ) → number < most → number + 1 ≤ most
-next_within number most lt = omega arith
-
-room_left : (taken number due room count events now_ : ℕ) → count ≡ min due room → room ≡ 200000 - events → now_ ≡ (number - taken) + events → number < taken + count → taken ≤ number → now_ < 200000
-room_left taken number due room count events now_ c r n lt le = omega arith
+use Rattle.line_system.proofs.system.System.deliver.Goals.{then-not-is_lost+else-is_full+else-is_past_messages+in_ok-go, else-not-is_lost}
 
 pub loop-number-init : goal.loop-number-init
-loop-number-init c = record {
-  midway = midway_start c.args.self.now c.args.to c.due-from.result.0 c.due-from.result.1 c.args.lines.now.items;
-  within = none_made _ _;
-}
-
-pub loop-number-preserved : goal.loop-number-preserved
-loop-number-preserved c =
-    let m = c.loop-number.invariant.midway in
-    record {
-      midway = midway_next _ _ _ _ _ _ _ _ _ _ m c.in_ok-go.ensures.history c.in_ok-go.ensures.lines;
-      within = next_within _ _ c.loop-number-test.true;
-    }
-
-pub go-requires-clause-built : goal.go-requires-clause-built
-go-requires-clause-built c =
-    let m = c.loop-number.invariant.midway in
-    (midway_keeps _ _ _ _ _ _ _ _ _ m (below _ _ c.saturating_sub-due.result c.room.result _ _ c.saturating_sub-due.ensures c.min-count.ensures c.loop-number-test.true m.reached) c.requires c.due-from.ensures.takes).built
+loop-number-init c = between_start c.args.self.now c.args.to c.due-from.result.0 c.due-from.result.1 c.due-from.result.2 c.args.lines.now.items c.requires c.due-from.ensures.takes
 
 pub go-requires-clause-kept : goal.go-requires-clause-kept
 go-requires-clause-kept c =
-    let m = c.loop-number.invariant.midway in
-    (midway_keeps _ _ _ _ _ _ _ _ _ m (below _ _ c.saturating_sub-due.result c.room.result _ _ c.saturating_sub-due.ensures c.min-count.ensures c.loop-number-test.true m.reached) c.requires c.due-from.ensures.takes).kept
+    (between_keeps c.args.self.now c.args.to c.due-from.result.0 c.due-from.result.2 c.loop-number.number c.loop-number.self c.args.lines.now.items c.loop-number.lines.items c.loop-number.invariant c.loop-number-test.true
+    (sym c.if-not-is_lost.true ∙ c.is_lost.ensures)).kept
 
-pub go-requires-clause-few : goal.go-requires-clause-few
-go-requires-clause-few c =
-    let m = c.loop-number.invariant.midway in
-    room_left c.due-from.result.1 c.loop-number.number c.saturating_sub-due.result c.room.result c.min-count.result _ _ c.min-count.ensures c.room.ensures (midway_few _ _ _ _ _ _ _ _ m) c.loop-number-test.true m.reached
+pub returns-then-is_full : goal.returns-then-is_full
+returns-then-is_full c = λ n.
+    between_stops c.args.self.now c.args.to c.due-from.result.0 c.due-from.result.2 c.loop-number.number c.loop-number.self c.args.lines.now.items c.loop-number.lines.items c.loop-number.invariant c.loop-number-test.true
+    (sym c.if-not-is_lost.true ∙ c.is_lost.ensures) n Events ends.Events
+    (events_full c.loop-number.self.events (story_of c.loop-number.self.line c.loop-number.self.events) (sym c.is_full.ensures ∙ c.if-is_full.true)) refl
 
-pub returns-then-full : goal.returns-then-full
-returns-then-full c =
-    let m = c.loop-number.invariant.midway in
-    let made = midway_end _ _ _ _ c.min-count.result _ _ _ _ m c.loop-number.invariant.within c.loop-number-test.false in
-    let due = c.due-from.ensures.takes ∙ ap (λ (k : ℕ). takes_from c.args.to c.due-from.result.0 (c.due-from.result.1 + 1) k) (sym c.saturating_sub-due.ensures) in
-    let most = c.min-count.ensures ∙ ap (λ (k : ℕ). min c.saturating_sub-due.result k) c.room.ensures in
-    λ n. delivered_full c.args.self.now c.args.to c.due-from.result.0 (c.due-from.result.1 + 1) c.saturating_sub-due.result c.min-count.result due most _ _ _ made.0 made.1 n (sym c.if-full.true ∙ c.is_past_limit-full.ensures)
+pub returns-then-is_past_messages : goal.returns-then-is_past_messages
+returns-then-is_past_messages c = λ n.
+    between_stops c.args.self.now c.args.to c.due-from.result.0 c.due-from.result.2 c.loop-number.number c.loop-number.self c.args.lines.now.items c.loop-number.lines.items c.loop-number.invariant c.loop-number-test.true
+    (sym c.if-not-is_lost.true ∙ c.is_lost.ensures) n Messages ends.Messages
+    (messages_full c.loop-number.self.events (story_of c.loop-number.self.line c.loop-number.self.events) (sym c.is_full.ensures ∙ c.if-is_full.false) (sym c.is_past_messages.ensures ∙ c.if-is_past_messages.true)) refl
 
-pub returns-else-full : goal.returns-else-full
-returns-else-full c =
-    let m = c.loop-number.invariant.midway in
-    let made = midway_end _ _ _ _ c.min-count.result _ _ _ _ m c.loop-number.invariant.within c.loop-number-test.false in
-    let due = c.due-from.ensures.takes ∙ ap (λ (k : ℕ). takes_from c.args.to c.due-from.result.0 (c.due-from.result.1 + 1) k) (sym c.saturating_sub-due.ensures) in
-    let most = c.min-count.ensures ∙ ap (λ (k : ℕ). min c.saturating_sub-due.result k) c.room.ensures in
-    λ n. delivered_whole c.args.self.now c.args.to c.due-from.result.0 (c.due-from.result.1 + 1) c.saturating_sub-due.result c.min-count.result due most _ _ _ made.0 made.1 n (sym c.if-full.false ∙ c.is_past_limit-full.ensures)
+pub loop-number-preserved : goal.loop-number-preserved
+loop-number-preserved c =
+    elim c.if-not-is_lost.branch [
+      | then-not-is_lost+else-is_full+else-is_past_messages+in_ok-go w ↦ rw (w.self-is, w.lines-is) (between_takes c.args.self.now c.args.to c.due-from.result.0 c.due-from.result.2 c.loop-number.number c.loop-number.self c.args.lines.now.items c.loop-number.lines.items c.loop-number.invariant c.loop-number-test.true
+          (sym w.if-not-is_lost.true ∙ c.is_lost.ensures) _ _
+          (has_room c.loop-number.self.events (story_of c.loop-number.self.line c.loop-number.self.events) (sym w.is_full.ensures ∙ w.if-is_full.false) (sym w.is_past_messages.ensures ∙ w.if-is_past_messages.false))
+          w.in_ok-go.ensures.history w.in_ok-go.ensures.lines)
+      | else-not-is_lost w ↦ rw (w.self-is, w.lines-is) (between_passes c.args.self.now c.args.to c.due-from.result.0 c.due-from.result.2 c.loop-number.number c.loop-number.self c.args.lines.now.items c.loop-number.lines.items c.loop-number.invariant c.loop-number-test.true
+          (sym w.if-not-is_lost.false ∙ c.is_lost.ensures))
+    ]
+
+pub returns : goal.returns
+returns c = λ n. between_ends c.args.self.now c.args.to c.due-from.result.0 c.due-from.result.2 c.loop-number.number c.loop-number.self c.args.lines.now.items c.loop-number.lines.items n Goes c.loop-number.invariant c.loop-number-test.false refl

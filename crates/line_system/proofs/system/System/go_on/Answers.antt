@@ -3,7 +3,7 @@ use Rattle.definitions.specs.declared.event.Event.{Event}
 use Rattle.definitions.specs.Premises.{built}
 use Rattle.definitions.specs.Steps.{story_of}
 use Rattle.line_system.specs.System.{Answered}
-use Rattle.line_system.proofs.Story.{stands_alone}
+use Rattle.line_system.proofs.Go_kept.{stands_alone}
 use Rattle.line_system.proofs.system.System.go_on.Goals as goal
 
 pub deliver-requires : goal.deliver-requires

@@ -1,6 +1,6 @@
 use Rattle.std.proofs.Common.{◌≡◌}
-use Rattle.line_system.specs.State.{parts, taken}
-use Rattle.line_system.proofs.Start.{parts_start, starts}
+use Rattle.line_system.specs.State.{parts, tally}
+use Rattle.line_system.proofs.Starts.{parts_start, starts}
 use Rattle.line_system.proofs.system.System.start.Goals as goal
 
 pub invariant_of-result : goal.invariant_of-result
@@ -9,5 +9,5 @@ invariant_of-result c = c.line.invariant
 pub invariant_of-result-2 : goal.invariant_of-result-2
 invariant_of-result-2 c =
     let zone : parts c.in_ok-state.state ≡ parts_start c.args.line = rw (← c.zone_of_line-zone.ensures) c.in_ok-state.ensures.start in
-    let kept = starts c.args.line (parts c.in_ok-state.state) (taken c.in_ok-state.state) c.in_ok-state.state.zone c.requires.valid c.requires.one zone c.in_ok-state.ensures.taken c.in_ok-state.ensures.on_line in
+    let kept = starts c.args.line (parts c.in_ok-state.state) (tally c.in_ok-state.state) c.in_ok-state.state.zone c.requires.valid c.requires.one zone c.in_ok-state.ensures.tally c.in_ok-state.ensures.on_line in
     rw (c.line.view_is, c.in_ok-with_capacity.ensures.items) kept

@@ -1,83 +1,109 @@
-use Rattle.std.proofs.Common.{◌≡◌, ◌<◌, length, ap, subst, ◌∙◌, ◌++◌, ◌∷◌, [], List, reverse, arith}
+use Rattle.std.proofs.Common.{◌≡◌, ◌<◌, length, ap, subst, ◌∙◌, ◌++◌, ◌∷◌, [], List, reverse, arith, None}
 use Rattle.std.proofs.lemmas.List.{length-reverse}
 use Rattle.definitions.specs.declared.event.Event.{Event}
-use Rattle.definitions.specs.Steps.{Effect}
+use Rattle.definitions.specs.Steps.{Effect, story_of}
 use Rattle.definitions.specs.Track.{Line}
-use Rattle.definitions.specs.Trace.{event_limit}
+use Rattle.definitions.specs.Trace.{no_room}
+use Rattle.event_laws.proofs.Comes_kept.{room_left}
 use Rattle.line_system.specs.History.{History}
-use Rattle.line_system.specs.State.{parts, taken}
-use Rattle.line_system.proofs.Story.{Goes, goes_same, kept_same, go_kept, go_lines, go_premise, go_fits, go_form, go_range}
+use Rattle.line_system.specs.State.{parts, tally}
+use Rattle.line_system.proofs.Go_kept.{Goes, goes_same, kept_same, go_kept, go_lines, go_premise, go_fits, go_form, go_range, go_frames, go_count, go_issued}
 use Rattle.line_system.proofs.system.System.step.Goals as goal
 
-few_events : (h : History) (line : Line) (xs : List Event) → record { line = line; events = reverse xs } ≡ h → length h.events < event_limit → length xs < 100000000
-few_events h line xs view few =
+few_events : (h : History) (line : Line) (xs : List Event) → record { line = line; events = reverse xs } ≡ h → no_room h.events (story_of h.line h.events) ≡ None → length xs < 200000
+few_events h line xs view room =
     let n = length-reverse xs in
     let same = ap (λ (g : History). length g.events) view in
+    let few = room_left h.line h.events room in
     omega arith
 
 pub step-requires-clause-on_line : goal.step-requires-clause-on_line
 step-requires-clause-on_line c =
     let m = c.make_room.ensures in
-    let g : Goes c.args.self.now c.self.inside.line c.make_room.new.events.items (parts c.make_room.new.state) (taken c.make_room.new.state) c.make_room.new.state.zone c.args.event.now =
-    goes_same c.args.self.now _ _ _ _ _ _ _ _ _ c.args.event.now c.self.view_is c.self.invariant (few_events c.args.self.now _ _ c.self.view_is c.requires.few)
-    m.events m.parts m.taken m.zone c.requires.built c.requires.within c.requires.kept in
+    let g : Goes c.args.self.now c.self.inside.line c.make_room.new.events.items (parts c.make_room.new.state) (tally c.make_room.new.state) c.make_room.new.state.zone c.args.event.now =
+    goes_same c.args.self.now _ _ _ _ _ _ _ _ _ c.args.event.now c.self.view_is c.self.invariant (few_events c.args.self.now _ _ c.self.view_is c.requires.room)
+    m.events m.parts m.tally m.zone c.requires.built c.requires.within c.requires.kept in
     g.keeps.on_line
 
 pub step-requires-clause-world_on : goal.step-requires-clause-world_on
 step-requires-clause-world_on c =
     let m = c.make_room.ensures in
-    let g : Goes c.args.self.now c.self.inside.line c.make_room.new.events.items (parts c.make_room.new.state) (taken c.make_room.new.state) c.make_room.new.state.zone c.args.event.now =
-    goes_same c.args.self.now _ _ _ _ _ _ _ _ _ c.args.event.now c.self.view_is c.self.invariant (few_events c.args.self.now _ _ c.self.view_is c.requires.few)
-    m.events m.parts m.taken m.zone c.requires.built c.requires.within c.requires.kept in
+    let g : Goes c.args.self.now c.self.inside.line c.make_room.new.events.items (parts c.make_room.new.state) (tally c.make_room.new.state) c.make_room.new.state.zone c.args.event.now =
+    goes_same c.args.self.now _ _ _ _ _ _ _ _ _ c.args.event.now c.self.view_is c.self.invariant (few_events c.args.self.now _ _ c.self.view_is c.requires.room)
+    m.events m.parts m.tally m.zone c.requires.built c.requires.within c.requires.kept in
     g.keeps.world_on
 
 pub step-requires-clause-built : goal.step-requires-clause-built
 step-requires-clause-built c =
     let m = c.make_room.ensures in
-    let g : Goes c.args.self.now c.self.inside.line c.make_room.new.events.items (parts c.make_room.new.state) (taken c.make_room.new.state) c.make_room.new.state.zone c.args.event.now =
-    goes_same c.args.self.now _ _ _ _ _ _ _ _ _ c.args.event.now c.self.view_is c.self.invariant (few_events c.args.self.now _ _ c.self.view_is c.requires.few)
-    m.events m.parts m.taken m.zone c.requires.built c.requires.within c.requires.kept in
+    let g : Goes c.args.self.now c.self.inside.line c.make_room.new.events.items (parts c.make_room.new.state) (tally c.make_room.new.state) c.make_room.new.state.zone c.args.event.now =
+    goes_same c.args.self.now _ _ _ _ _ _ _ _ _ c.args.event.now c.self.view_is c.self.invariant (few_events c.args.self.now _ _ c.self.view_is c.requires.room)
+    m.events m.parts m.tally m.zone c.requires.built c.requires.within c.requires.kept in
     go_form _ _ _ _ _ _ _ g
 
 pub step-requires-clause-fits : goal.step-requires-clause-fits
 step-requires-clause-fits c =
     let m = c.make_room.ensures in
-    let g : Goes c.args.self.now c.self.inside.line c.make_room.new.events.items (parts c.make_room.new.state) (taken c.make_room.new.state) c.make_room.new.state.zone c.args.event.now =
-    goes_same c.args.self.now _ _ _ _ _ _ _ _ _ c.args.event.now c.self.view_is c.self.invariant (few_events c.args.self.now _ _ c.self.view_is c.requires.few)
-    m.events m.parts m.taken m.zone c.requires.built c.requires.within c.requires.kept in
+    let g : Goes c.args.self.now c.self.inside.line c.make_room.new.events.items (parts c.make_room.new.state) (tally c.make_room.new.state) c.make_room.new.state.zone c.args.event.now =
+    goes_same c.args.self.now _ _ _ _ _ _ _ _ _ c.args.event.now c.self.view_is c.self.invariant (few_events c.args.self.now _ _ c.self.view_is c.requires.room)
+    m.events m.parts m.tally m.zone c.requires.built c.requires.within c.requires.kept in
     go_fits _ _ _ _ _ _ _ g
 
 pub step-requires-clause-kept : goal.step-requires-clause-kept
 step-requires-clause-kept c =
     let m = c.make_room.ensures in
-    let g : Goes c.args.self.now c.self.inside.line c.make_room.new.events.items (parts c.make_room.new.state) (taken c.make_room.new.state) c.make_room.new.state.zone c.args.event.now =
-    goes_same c.args.self.now _ _ _ _ _ _ _ _ _ c.args.event.now c.self.view_is c.self.invariant (few_events c.args.self.now _ _ c.self.view_is c.requires.few)
-    m.events m.parts m.taken m.zone c.requires.built c.requires.within c.requires.kept in
+    let g : Goes c.args.self.now c.self.inside.line c.make_room.new.events.items (parts c.make_room.new.state) (tally c.make_room.new.state) c.make_room.new.state.zone c.args.event.now =
+    goes_same c.args.self.now _ _ _ _ _ _ _ _ _ c.args.event.now c.self.view_is c.self.invariant (few_events c.args.self.now _ _ c.self.view_is c.requires.room)
+    m.events m.parts m.tally m.zone c.requires.built c.requires.within c.requires.kept in
     go_premise _ _ _ _ _ _ _ g
 
 pub step-requires-clause-range : goal.step-requires-clause-range
 step-requires-clause-range c =
     let m = c.make_room.ensures in
-    let g : Goes c.args.self.now c.self.inside.line c.make_room.new.events.items (parts c.make_room.new.state) (taken c.make_room.new.state) c.make_room.new.state.zone c.args.event.now =
-    goes_same c.args.self.now _ _ _ _ _ _ _ _ _ c.args.event.now c.self.view_is c.self.invariant (few_events c.args.self.now _ _ c.self.view_is c.requires.few)
-    m.events m.parts m.taken m.zone c.requires.built c.requires.within c.requires.kept in
+    let g : Goes c.args.self.now c.self.inside.line c.make_room.new.events.items (parts c.make_room.new.state) (tally c.make_room.new.state) c.make_room.new.state.zone c.args.event.now =
+    goes_same c.args.self.now _ _ _ _ _ _ _ _ _ c.args.event.now c.self.view_is c.self.invariant (few_events c.args.self.now _ _ c.self.view_is c.requires.room)
+    m.events m.parts m.tally m.zone c.requires.built c.requires.within c.requires.kept in
     go_range _ _ _ _ _ _ _ g
 
+pub step-requires-clause-frames : goal.step-requires-clause-frames
+step-requires-clause-frames c =
+    let m = c.make_room.ensures in
+    let g : Goes c.args.self.now c.self.inside.line c.make_room.new.events.items (parts c.make_room.new.state) (tally c.make_room.new.state) c.make_room.new.state.zone c.args.event.now =
+    goes_same c.args.self.now _ _ _ _ _ _ _ _ _ c.args.event.now c.self.view_is c.self.invariant (few_events c.args.self.now _ _ c.self.view_is c.requires.room)
+    m.events m.parts m.tally m.zone c.requires.built c.requires.within c.requires.kept in
+    go_frames _ _ _ _ _ _ _ g
+
+pub step-requires-clause-count : goal.step-requires-clause-count
+step-requires-clause-count c =
+    let m = c.make_room.ensures in
+    let g : Goes c.args.self.now c.self.inside.line c.make_room.new.events.items (parts c.make_room.new.state) (tally c.make_room.new.state) c.make_room.new.state.zone c.args.event.now =
+    goes_same c.args.self.now _ _ _ _ _ _ _ _ _ c.args.event.now c.self.view_is c.self.invariant (few_events c.args.self.now _ _ c.self.view_is c.requires.room)
+    m.events m.parts m.tally m.zone c.requires.built c.requires.within c.requires.kept in
+    go_count _ _ _ _ _ _ _ g
+
 pub invariant_of-self : goal.invariant_of-self
-invariant_of-self c = let m = c.make_room.ensures in kept_same _ _ _ _ _ _ _ _ _ m.events m.parts m.taken m.zone c.self.invariant
+invariant_of-self c = let m = c.make_room.ensures in kept_same _ _ _ _ _ _ _ _ _ m.events m.parts m.tally m.zone c.self.invariant
 
 pub invariant_of-self-2 : goal.invariant_of-self-2
 invariant_of-self-2 c =
     let m = c.make_room.ensures in
-    let g : Goes c.args.self.now c.self.inside.line c.make_room.new.events.items (parts c.make_room.new.state) (taken c.make_room.new.state) c.make_room.new.state.zone c.args.event.now =
-    goes_same c.args.self.now _ _ _ _ _ _ _ _ _ c.args.event.now c.self.view_is c.self.invariant (few_events c.args.self.now _ _ c.self.view_is c.requires.few)
-    m.events m.parts m.taken m.zone c.requires.built c.requires.within c.requires.kept in
-    go_kept _ _ _ _ _ _ _ g _ _ _ _ (subst (λ (e : Event). c.push_reserved.new.self.items ≡ c.make_room.new.events.items ++ e ∷ []) c.copy.ensures c.push_reserved.ensures.items) c.step.ensures.next c.step.ensures.taken c.step.ensures.on_line c.step.ensures.world_on
+    let g : Goes c.args.self.now c.self.inside.line c.make_room.new.events.items (parts c.make_room.new.state) (tally c.make_room.new.state) c.make_room.new.state.zone c.args.event.now =
+    goes_same c.args.self.now _ _ _ _ _ _ _ _ _ c.args.event.now c.self.view_is c.self.invariant (few_events c.args.self.now _ _ c.self.view_is c.requires.room)
+    m.events m.parts m.tally m.zone c.requires.built c.requires.within c.requires.kept in
+    go_kept _ _ _ _ _ _ _ g _ _ _ _ _ (subst (λ (e : Event). c.push_reserved.new.self.items ≡ c.make_room.new.events.items ++ e ∷ []) c.copy.ensures c.push_reserved.ensures.items) c.step.ensures.next c.step.ensures.gives c.step.ensures.tally c.step.ensures.on_line c.step.ensures.world_on
 
 pub returns-clause-lines : goal.returns-clause-lines
 returns-clause-lines c =
     let m = c.make_room.ensures in
-    let g : Goes c.args.self.now c.self.inside.line c.make_room.new.events.items (parts c.make_room.new.state) (taken c.make_room.new.state) c.make_room.new.state.zone c.args.event.now =
-    goes_same c.args.self.now _ _ _ _ _ _ _ _ _ c.args.event.now c.self.view_is c.self.invariant (few_events c.args.self.now _ _ c.self.view_is c.requires.few)
-    m.events m.parts m.taken m.zone c.requires.built c.requires.within c.requires.kept in
+    let g : Goes c.args.self.now c.self.inside.line c.make_room.new.events.items (parts c.make_room.new.state) (tally c.make_room.new.state) c.make_room.new.state.zone c.args.event.now =
+    goes_same c.args.self.now _ _ _ _ _ _ _ _ _ c.args.event.now c.self.view_is c.self.invariant (few_events c.args.self.now _ _ c.self.view_is c.requires.room)
+    m.events m.parts m.tally m.zone c.requires.built c.requires.within c.requires.kept in
     ap (λ (x : Effect). x.lines) c.step.ensures.gives ∙ go_lines _ _ _ _ _ _ _ g
+
+pub returns-clause-issued : goal.returns-clause-issued
+returns-clause-issued c =
+    let m = c.make_room.ensures in
+    let g : Goes c.args.self.now c.self.inside.line c.make_room.new.events.items (parts c.make_room.new.state) (tally c.make_room.new.state) c.make_room.new.state.zone c.args.event.now =
+    goes_same c.args.self.now _ _ _ _ _ _ _ _ _ c.args.event.now c.self.view_is c.self.invariant (few_events c.args.self.now _ _ c.self.view_is c.requires.room)
+    m.events m.parts m.tally m.zone c.requires.built c.requires.within c.requires.kept in
+    ap (λ (x : Effect). x.issued) c.step.ensures.gives ∙ go_issued _ _ _ _ _ _ _ g

@@ -4,9 +4,9 @@ use Rattle.definitions.specs.Zones.{zone_id}
 use Rattle.zone_state.specs.Zone.{ZoneKept}
 use Rattle.invariant_laws.proofs.Zone_only.{zone_only}
 use Rattle.line_system.specs.History.{History}
-use Rattle.line_system.specs.State.{parts, taken}
+use Rattle.line_system.specs.State.{parts, tally}
 use Rattle.line_system.specs.Shows.{ShowsNotions}
-use Rattle.line_system.proofs.Shows.{shows_zone}
+use Rattle.line_system.proofs.Shows_zone.{shows_zone}
 use Rattle.line_system.proofs.system.System.zone.Goals as goal
 
 pub returns-then-has_zone-clause-shows : goal.returns-then-has_zone-clause-shows
@@ -17,4 +17,4 @@ returns-then-has_zone-clause-shows c =
     subst (λ (h : History). ShowsNotions h.line (story_of h.line h.events) c.args.z.0 c.zone.result.now) c.self.view_is
     (subst (λ (n : ℕ). ShowsNotions line (story_of line es) n c.zone.result.now) (sym is)
     (subst (λ (y : ZoneKept). ShowsNotions line (story_of line es) (zone_id line) y) (sym c.zone.ensures)
-    (shows_zone line es (parts c.self.inside.state) (taken c.self.inside.state) c.self.inside.state.zone c.self.invariant refl)))
+    (shows_zone line es (parts c.self.inside.state) (tally c.self.inside.state) c.self.inside.state.zone c.self.invariant refl)))

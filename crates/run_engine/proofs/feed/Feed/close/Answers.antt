@@ -2,11 +2,11 @@ use Rattle.std.proofs.Common.{◌∙◌, sym, ap}
 use Rattle.std.proofs.lemmas.Bool.{ne_eqb}
 use Rattle.definitions.specs.Trace.{Step}
 use Rattle.byte_feed.specs.Feed.{Feed}
-use Rattle.byte_feed.proofs.Streams.{closed_none}
-use Rattle.byte_feed.proofs.Runs.{closed_run}
+use Rattle.byte_feed.proofs.Trace_fed.{closed_none}
+use Rattle.byte_feed.proofs.Leads_run.{closed_run}
 use Rattle.run_engine.specs.Feeding.{feed_shown}
-use Rattle.run_engine.proofs.Doing.{on_ok}
-use Rattle.run_engine.proofs.Sending.{nothing, other_text}
+use Rattle.run_engine.proofs.Told_front.{on_ok}
+use Rattle.run_engine.proofs.Other_text.{nothing, other_text}
 use Rattle.run_engine.proofs.feed.Feed.close.Goals as goal
 
 pub returns-then-self-eq0-clause-sends : goal.returns-then-self-eq0-clause-sends

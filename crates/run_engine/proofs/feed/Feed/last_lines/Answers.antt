@@ -6,7 +6,7 @@ use Rattle.byte_feed.specs.Feed.{fed_gives, closed}
 use Rattle.run_engine.specs.declared.output.Fault.TheVariants as faults
 use Rattle.run_engine.specs.Feeding.{feed_shown}
 use Rattle.run_engine.specs.Sends.{Sends}
-use Rattle.run_engine.proofs.Sending.{then, stop, buffered, buffer_full}
+use Rattle.run_engine.proofs.Other_text.{then, stop, buffered, buffer_full}
 use Rattle.run_engine.proofs.feed.Feed.last_lines.Goals as goal
 
 pub returns-in-Ok-write_ending-clause-ending : goal.returns-in-Ok-write_ending-clause-ending

@@ -1,8 +1,8 @@
 use Rattle.std.proofs.Common.{◌∙◌, refl, sym, arith}
-use Rattle.byte_feed.proofs.Runs.{leads_over}
+use Rattle.byte_feed.proofs.Leads_run.{leads_over}
 use Rattle.run_engine.specs.Feeding.{feed_shown}
-use Rattle.run_engine.proofs.Sending.{nothing, stop, other_text, answers, fails}
-use Rattle.run_engine.proofs.Taking.{led, ran, line_ahead, run_ahead, past_ahead, line_left}
+use Rattle.run_engine.proofs.Other_text.{nothing, stop, other_text, answers, fails}
+use Rattle.run_engine.proofs.More_next.{led, ran, line_ahead, run_ahead, past_ahead, line_left}
 use Rattle.run_engine.proofs.feed.Feed.line.Goals as goal
 
 pub returns-then-is_over-clause-sends : goal.returns-then-is_over-clause-sends

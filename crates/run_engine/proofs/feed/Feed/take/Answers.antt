@@ -1,6 +1,6 @@
 use Rattle.std.proofs.Common.{ap}
 use Rattle.edge_io.specs.Memory.{InBuffer}
-use Rattle.run_engine.proofs.Sending.{from_none, ends, end_fails, gave_up}
+use Rattle.run_engine.proofs.Other_text.{from_none, ends, end_fails, gave_up}
 use Rattle.run_engine.proofs.feed.Feed.take.Goals as goal
 
 pub returns-in-Ok-flush-clause-does : goal.returns-in-Ok-flush-clause-does

@@ -3,8 +3,8 @@ use Rattle.std.proofs.lemmas.Bool.{eqb-true}
 use Rattle.definitions.specs.Trace.{text_read}
 use Rattle.byte_feed.specs.Feed.{opened}
 use Rattle.run_engine.specs.Feeding.{feed_shown}
-use Rattle.run_engine.proofs.Sending.{other_text}
-use Rattle.run_engine.proofs.Taking.{begun_none}
+use Rattle.run_engine.proofs.Other_text.{other_text}
+use Rattle.run_engine.proofs.More_next.{begun_none}
 use Rattle.run_engine.proofs.feed.Feed.text_line.Goals as goal
 
 pub returns-then-is_empty-clause-sends : goal.returns-then-is_empty-clause-sends

@@ -1,6 +1,6 @@
 use Rattle.std.proofs.Common.{arith}
 use Rattle.run_engine.specs.Feeding.{feed_shown}
-use Rattle.run_engine.proofs.Taking.{none_next, none_sends, more_next, more_sends, more_fails}
+use Rattle.run_engine.proofs.More_next.{none_next, none_sends, more_next, more_sends, more_fails}
 use Rattle.run_engine.proofs.feed.Feed.text_lines.Goals as goal
 
 pub loop-done-init : goal.loop-done-init

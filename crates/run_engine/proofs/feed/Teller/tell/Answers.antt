@@ -1,5 +1,5 @@
 use Rattle.std.proofs.Common.{refl}
-use Rattle.run_engine.proofs.Sending.{no_memory}
+use Rattle.run_engine.proofs.Other_text.{no_memory}
 use Rattle.run_engine.proofs.feed.Teller.tell.Goals as goal
 
 pub returns-in-Err-clause-sends : goal.returns-in-Err-clause-sends

@@ -1,9 +1,9 @@
 use Rattle.std.proofs.Common.{◌∙◌, ◌+◌, ap, sym, subst, arith}
 use Rattle.definitions.specs.Trace.{Stage, After, Step}
 use Rattle.run_engine.specs.Shown.{reading_shown, done_early, Steady}
-use Rattle.run_engine.proofs.Going.{never_done}
-use Rattle.run_engine.proofs.Stages.{text_is}
-use Rattle.run_engine.proofs.Steady.{steady_read}
+use Rattle.run_engine.proofs.Never_done.{never_done}
+use Rattle.run_engine.proofs.Goes_read.{text_is}
+use Rattle.run_engine.proofs.Steady_read.{steady_read}
 use Rattle.run_engine.proofs.stage.Reading.text.Goals as goal
 
 pub returns-clause-text : goal.returns-clause-text

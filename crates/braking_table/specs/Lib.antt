@@ -1,0 +1,2 @@
+pub mod Brake
+pub mod Made
