@@ -102,6 +102,17 @@ fn make_room(events: &mut Vec<Event>, state: &mut State) -> Result<(), AllocErro
     state.reserve()
 }
 
+/// Puts a copy of an event behind the others, for which there is room. It is made where it is to lie, since it is large.
+fn keep(events: &mut Vec<Event>, event: &Event)
+    requires { vec_len events.old < vec_capacity events.old }
+    ensures { events.new.items ≡ events.old.items ++ event.now ∷ [] }
+{
+    events.push_reserved(Event::Scan);
+    if let Some(place) = events.last_mut() {
+        event.copy_into(place);
+    }
+}
+
 impl System {
     /// A system with no event yet, of a line of at most one zone.
     pub fn start(alloc: Global, line: Line) -> Result<System, AllocError>
@@ -224,7 +235,7 @@ impl System {
         make_room(&mut self.events, &mut self.state)?;
         outs.clear();
         self.state.step(&self.line, event, outs);
-        self.events.push_reserved(event.copy());
+        keep(&mut self.events, event);
         Ok(())
     }
 

@@ -16,6 +16,23 @@ use form_codec::fault::TextFault;
 use form_codec::read::{Values, read_line};
 use form_codec::write::write_line;
 
+/// Reads a line item from its text; `values` is room for its values.
+pub(crate) fn read_item(text: &[u8], values: &mut Values) -> Result<LineItem, TextFault>
+    ensures read { Sees result (item_at text.now) }
+    ensures said { IfOk result (λ x. SaysItem x text.now) }
+    ensures only { (x : LineItem) → SaysItem x text.now → result ≡ Ok x }
+    ensures refused { IfErr result (λ fault. IsRefused IsItem text.now fault.column) }
+    ensures column { (k : ℕ) → IsRefused IsItem text.now k → result ≡ Err (record { column = k }) }
+{
+    match read_line(item_rows(), values, text) {
+        Ok(form) => match item_of(form, values.as_slice()) {
+            Some(item) => Ok(item),
+            None => unreachable!(),
+        },
+        Err(fault) => Err(fault),
+    }
+}
+
 /// Reads a line item from its text, without an end of line.
 pub fn read_line_item(text: &[u8]) -> Result<LineItem, TextFault>
     // It answers what reading by the table of the items gives.
@@ -30,13 +47,7 @@ pub fn read_line_item(text: &[u8]) -> Result<LineItem, TextFault>
     ensures column { (k : ℕ) → IsRefused IsItem text.now k → result ≡ Err (record { column = k }) }
 {
     let mut values: Values = ArrayVec::new();
-    match read_line(item_rows(), &mut values, text) {
-        Ok(form) => match item_of(form, values.as_slice()) {
-            Some(item) => Ok(item),
-            None => unreachable!(),
-        },
-        Err(fault) => Err(fault),
-    }
+    read_item(text, &mut values)
 }
 
 /// Writes an item's spelling, without an end of line.

@@ -1,10 +1,10 @@
-pub mod Known_more
-pub mod Goes_read
-pub mod Never_done
-pub mod Steady_read
-pub mod Told_front
-pub mod Other_text
-pub mod Lines_more
-pub mod More_next
-pub mod Midway_more
+mod Known_more
+mod Goes_read
+mod Never_done
+mod Steady_read
+mod Told_front
+mod Other_text
+mod Lines_more
+mod More_next
+mod Midway_more
 pub mod All_safe

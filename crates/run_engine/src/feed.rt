@@ -108,9 +108,9 @@ impl Teller {
         ensures { IfOk result (λ t. reading_shown t.reading ≡ Rattle.definitions.specs.Trace.start command) }
     {
         Ok(Teller {
-            reading: Reading::start(alloc, command)?,
-            room: Room::new(alloc)?,
             pending: TextBuffer::new(alloc, ROOM)?,
+            room: Room::new(alloc)?,
+            reading: Reading::start(alloc, command)?,
         })
     }
 

@@ -3,12 +3,12 @@ ghost use Rattle.std.specs.Prelude.{◌≡◌, ℕ, List, [], ◌+◌, ◌-◌, 
 ghost use Rattle.definitions.specs.Rules.{is_any_zone, is_line, rule_of, finish_rule};
 ghost use Rattle.definitions.specs.Premises.{built};
 ghost use Rattle.definitions.specs.World.{trains};
-ghost use Rattle.definitions.specs.Trace.{Items, Script, is_over, second_zone, item_read, begun, script_read, plan_read, event_comes, came, among_items, in_script, in_check, stage_read, stage_ends, text_read, input_limit};
+ghost use Rattle.definitions.specs.Trace.{Items, Script, is_over, second_zone, item_read, begun, script_read, plan_read, among_items, in_script, in_check, stage_read, stage_ends, text_read, input_limit};
 ghost use Rattle.definitions.specs.Grammar.{item_line_of, event_line_of};
 ghost use Rattle.definitions.specs.Steps.{story_of};
 ghost use Rattle.definitions.specs.Endings.{status_of};
 ghost use Rattle.run_engine.specs.Faults.{Refuses};
-ghost use Rattle.run_engine.specs.Reads.{stays, left_by, text_by, led};
+ghost use Rattle.run_engine.specs.Reads.{stays, left_by, text_by, led, event_read};
 ghost use Rattle.run_engine.specs.Shown.{check_shown, stage_shown, IsItems, items_of, reading_shown, Small, Steady};
 
 use crate::check::Check;
@@ -110,6 +110,13 @@ fn begin(alloc: Global, command: Command, line: Line) -> Result<Stage, AllocErro
     }
 }
 
+/// Puts a stage in the place of another.
+fn put(stage: &mut Stage, next: Stage)
+    ensures { stage.new ≡ next }
+{
+    *stage = next;
+}
+
 /// Begins the script of a line of these items, at text line n.
 fn begin_script(
     alloc: Global,
@@ -123,7 +130,7 @@ fn begin_script(
 {
     match builder.finish() {
         Ok(line) => {
-            *stage = begin(alloc, command, line)?;
+            put(stage, begin(alloc, command, line)?);
             Ok(Reads::stays(command))
         }
         Err(fault) => refused(n, fault),
@@ -175,12 +182,13 @@ fn read_among_items(
     n: u64,
     stage: &mut Stage,
     text: &[u8],
+    values: &mut Values,
 ) -> Result<Reads, AllocError>
     requires items { IsItems (stage_shown stage.old) }
     requires steady { Steady (n - 1) (stage_shown stage.old) }
     ensures { IfOk result (λ r. led r (stage_shown stage.new) [] text.now ≡ among_items command n (items_of (stage_shown stage.old)) text.now (item_line_of text.now)) }
 {
-    match item_line(text) {
+    match item_line(text, values) {
         ItemLine::Passed => Ok(Reads::On),
         ItemLine::Item(item) => read_item(command, n, stage, &item),
         ItemLine::Unbuilt => Ok(Reads::Ends(Ending::Unbuilt(n))),
@@ -203,7 +211,7 @@ fn run_event(
     requires small { count.old + 1 < 2 ^ 64 }
     requires empty { lines.old.items ≡ [] }
     requires built { built system.old.line (story_of system.old.line system.old.events) event.now ≡ true }
-    ensures { IfOk result (λ r. (text : List ℕ) → led r (Script system.new.line system.new.events count.new) lines.new.items text ≡ came system.old.line count.old (event_comes n system.old.line system.old.events (story_of system.old.line system.old.events) event.now)) }
+    ensures { IfOk result (λ r. (text : List ℕ) → led r (Script system.new.line system.new.events count.new) lines.new.items text ≡ event_read n system.old.line system.old.events count.old event.now) }
 {
     match system.read(event, outs, lines)? {
         Answer::Unbuilt => unreachable!(),
@@ -220,6 +228,7 @@ fn run_event(
 
 /// Text line n stands in a script that is run, after so many events. Its outcome lines are added to those of the room, of
 /// which there are none.
+#[tactic(auto, unfolding(crate::specs::Reads::event_read))]
 fn read_in_script(
     n: u64,
     system: &mut System,
@@ -286,7 +295,7 @@ fn read(
     ensures { IfOk result (λ r. led r (stage_shown stage.new) room.new.lines.items text.now ≡ stage_read command n (stage_shown stage.old) text.now) }
 {
     match stage {
-        Stage::Items(_) => read_among_items(alloc, command, n, stage, text),
+        Stage::Items(_) => read_among_items(alloc, command, n, stage, text, &mut room.values),
         Stage::Script(system, count) => read_in_script(n, system, count, text, room),
         Stage::Checked(check) => Ok(read_in_check(n, check, text, room)),
         Stage::Over(_) => unreachable!(),
@@ -298,7 +307,7 @@ fn end_by(stage: &mut Stage, reads: Reads)
     ensures { stage_shown stage.new ≡ left_by reads (stage_shown stage.old) }
 {
     match reads {
-        Reads::Ends(ending) => *stage = Stage::Over(ending),
+        Reads::Ends(ending) => put(stage, Stage::Over(ending)),
         Reads::On | Reads::Again => {}
     }
 }
@@ -407,7 +416,7 @@ impl Reading {
             return Ok(Reads::On);
         }
         if self.bytes + size > INPUT_LIMIT {
-            self.stage = Stage::Over(Ending::Input);
+            put(&mut self.stage, Stage::Over(Ending::Input));
             return Ok(Reads::On);
         }
         let reads = read(

@@ -1,4 +1,4 @@
-use Rattle.std.proofs.Common.{◌≡◌, ◌<◌, length, ap, subst, ◌∙◌, ◌++◌, ◌∷◌, [], List, reverse, arith, None}
+use Rattle.std.proofs.Common.{◌≡◌, ◌<◌, length, ap, ◌∙◌, List, reverse, arith, None}
 use Rattle.std.proofs.lemmas.List.{length-reverse}
 use Rattle.definitions.specs.declared.event.Event.{Event}
 use Rattle.definitions.specs.Steps.{Effect, story_of}
@@ -90,7 +90,7 @@ invariant_of-self-2 c =
     let g : Goes c.args.self.now c.self.inside.line c.make_room.new.events.items (parts c.make_room.new.state) (tally c.make_room.new.state) c.make_room.new.state.zone c.args.event.now =
     goes_same c.args.self.now _ _ _ _ _ _ _ _ _ c.args.event.now c.self.view_is c.self.invariant (few_events c.args.self.now _ _ c.self.view_is c.requires.room)
     m.events m.parts m.tally m.zone c.requires.built c.requires.within c.requires.kept in
-    go_kept _ _ _ _ _ _ _ g _ _ _ _ _ (subst (λ (e : Event). c.push_reserved.new.self.items ≡ c.make_room.new.events.items ++ e ∷ []) c.copy.ensures c.push_reserved.ensures.items) c.step.ensures.next c.step.ensures.gives c.step.ensures.tally c.step.ensures.on_line c.step.ensures.world_on
+    go_kept _ _ _ _ _ _ _ g _ _ _ _ _ c.keep.ensures c.step.ensures.next c.step.ensures.gives c.step.ensures.tally c.step.ensures.on_line c.step.ensures.world_on
 
 pub returns-clause-lines : goal.returns-clause-lines
 returns-clause-lines c =

@@ -3,7 +3,7 @@ use Rattle.text_forms.specs.Tables.{has_room, is_table}
 use Rattle.line_text.proofs.Item_table.{item_table, item_room}
 use Rattle.line_text.proofs.Item_said.{item_fits}
 use Rattle.line_text.proofs.Item_taken.{item_taken, item_column, said_at, some_said, some_only, none_never, item_not, item_refused, refusal_one}
-use Rattle.line_text.proofs.item.read_line_item.Goals as goal
+use Rattle.line_text.proofs.item.read_item.Goals as goal
 
 pub read_line-requires-clause-room : goal.read_line-requires-clause-room
 read_line-requires-clause-room c = ap has_room c.item_rows.ensures ∙ item_room
