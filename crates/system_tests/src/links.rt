@@ -73,12 +73,17 @@ fn go(rt: &impl Abort, system: &mut System, event: &Event, outs: &mut Outs) -> u
     0
 }
 
-/// The take that waits for an actor, by its taker, its sender and its ordinal; zeros where none waits.
-fn waits(system: &System, to: u8) -> (u8, u8, u32) {
+/// Whether this take waits for an actor.
+fn waits(system: &System, to: u8, from: u8, number: u32) -> bool {
     match system.waiting(to) {
-        Some(Event::Take(to, from, number)) => (to, from, number),
-        _ => (0, 0, 0),
+        Some(Event::Take(a, b, n)) => a == to && b == from && n == number,
+        _ => false,
     }
+}
+
+/// Whether nothing waits for an actor.
+fn waits_for_nothing(system: &System, to: u8) -> bool {
+    system.waiting(to).is_none()
 }
 
 fn is_frame(system: &System, from: u8, to: u8, number: u32, bytes: &[u8]) -> bool {
@@ -105,63 +110,69 @@ const GRANT: &[u8] = &[
     1, 10, 0, 7, 0, 0, 0, 1, 0, 0, 0, 0, 1, 0, 1, 0, 0, 0, 0, 0, 0x01, 0x86, 0xA0,
 ];
 
+/// A train that is declared, the time and its request for entry go; before it is declared nothing of it does.
+fn goes_out(rt: &impl Abort, system: &mut System, outs: &mut Outs) {
+    let train = TrainId(7);
+    let declared = Event::Train(train, 60_000, 2_000, 20_000, Kind::Equipped);
+    assert_eq!(rt; go(rt, system, &Event::Time(ZoneId(1), train), outs), 100);
+    assert_eq!(rt; go(rt, system, &declared, outs), 0);
+    assert!(rt; waits_for_nothing(system, 1));
+    assert_eq!(rt; go(rt, system, &Event::Time(ZoneId(1), train), outs), 0);
+    assert_eq!(rt; go(rt, system, &Event::Entry(train, INWARD), outs), 0);
+}
+
+/// What went out stands on its link, and nothing on any other.
+fn stands(rt: &impl Abort, system: &System) {
+    assert_eq!(rt; system.sent(0, 1), 2);
+    assert_eq!(rt; system.sent(1, 0), 0);
+    assert_eq!(rt; system.sent(0, 2), 0);
+    assert!(rt; is_frame(system, 0, 1, 1, TIME));
+    assert!(rt; is_frame(system, 0, 1, 2, REQUEST));
+    assert!(rt; system.frame(0, 1, 0).is_none());
+    assert!(rt; system.frame(0, 1, 3).is_none());
+    assert!(rt; system.frame(1, 0, 1).is_none());
+    assert!(rt; system.frame(2, 0, 1).is_none());
+}
+
+/// A message that is named lost waits no more; premises are told by their numbers.
+fn is_lost(rt: &impl Abort, system: &mut System, outs: &mut Outs) {
+    assert!(rt; waits(system, 1, 0, 1));
+    assert_eq!(rt; go(rt, system, &Event::Lost(0, 1, 1), outs), 0);
+    assert!(rt; waits(system, 1, 0, 2));
+    assert!(rt; waits_for_nothing(system, 9));
+    assert_eq!(rt; go(rt, system, &Event::Take(1, 0, 3), outs), 6);
+    assert_eq!(rt; go(rt, system, &Event::Enter(TrainId(7)), outs), 5);
+    assert_eq!(rt; go(rt, system, &Event::Deliver(1), outs), 100);
+}
+
+/// A delivery takes what is not lost, and its answer waits.
+fn is_delivered(rt: &impl Abort, alloc: Global, system: &mut System, outs: &mut Outs) {
+    let mut lines = Vec::new(alloc);
+    let goes = match system.read(&Event::Deliver(1), outs, &mut lines) {
+        Ok(Answer::Goes) => true,
+        _ => false,
+    };
+    assert!(rt; goes);
+    assert_eq!(rt; lines.len(), 1);
+    assert_eq!(rt; system.events().len(), 5);
+    assert!(rt; waits_for_nothing(system, 1));
+    assert!(rt; waits(system, 0, 1, 1));
+    assert!(rt; is_frame(system, 1, 0, 1, GRANT));
+}
+
 #[test]
 fn links_tell_what_went_out_and_what_waits(rt: HostRuntime) {
     let Ok(line) = line_of(rt.alloc()) else {
         panic!(rt; "no line");
     };
-    let Ok(mut system) = System::start(rt.alloc(), line) else {
-        panic!(rt; "want of memory");
-    };
     let Ok(mut outs) = Outs::new(rt.alloc()) else {
         panic!(rt; "want of memory");
     };
-    let train = TrainId(7);
-    assert_eq!(rt;
-        go(&rt, &mut system, &Event::Time(ZoneId(1), train), &mut outs),
-        100
-    );
-    assert_eq!(rt;
-        go(
-            &rt,
-            &mut system,
-            &Event::Train(train, 60_000, 2_000, 20_000, Kind::Equipped),
-            &mut outs
-        ),
-        0
-    );
-    assert_eq!(rt; waits(&system, 1), (0, 0, 0));
-    assert_eq!(rt;
-        go(&rt, &mut system, &Event::Time(ZoneId(1), train), &mut outs),
-        0
-    );
-    assert_eq!(rt;
-        go(&rt, &mut system, &Event::Entry(train, INWARD), &mut outs),
-        0
-    );
-    assert_eq!(rt; system.sent(0, 1), 2);
-    assert_eq!(rt; system.sent(1, 0), 0);
-    assert_eq!(rt; system.sent(0, 2), 0);
-    assert!(rt; is_frame(&system, 0, 1, 1, TIME));
-    assert!(rt; is_frame(&system, 0, 1, 2, REQUEST));
-    assert!(rt; system.frame(0, 1, 0).is_none());
-    assert!(rt; system.frame(0, 1, 3).is_none());
-    assert!(rt; system.frame(1, 0, 1).is_none());
-    assert!(rt; system.frame(2, 0, 1).is_none());
-    assert_eq!(rt; waits(&system, 1), (1, 0, 1));
-    assert_eq!(rt; go(&rt, &mut system, &Event::Lost(0, 1, 1), &mut outs), 0);
-    assert_eq!(rt; waits(&system, 1), (1, 0, 2));
-    assert_eq!(rt; waits(&system, 9), (0, 0, 0));
-    assert_eq!(rt; go(&rt, &mut system, &Event::Take(1, 0, 3), &mut outs), 6);
-    assert_eq!(rt; go(&rt, &mut system, &Event::Enter(train), &mut outs), 5);
-    assert_eq!(rt; go(&rt, &mut system, &Event::Deliver(1), &mut outs), 100);
-    let mut lines = Vec::new(rt.alloc());
-    let Ok(Answer::Goes) = system.read(&Event::Deliver(1), &mut outs, &mut lines) else {
-        panic!(rt; "the delivery does not go");
+    let Ok(mut system) = System::start(rt.alloc(), line) else {
+        panic!(rt; "want of memory");
     };
-    assert_eq!(rt; system.events().len(), 5);
-    assert_eq!(rt; lines.len(), 1);
-    assert_eq!(rt; waits(&system, 1), (0, 0, 0));
-    assert_eq!(rt; waits(&system, 0), (0, 1, 1));
-    assert!(rt; is_frame(&system, 1, 0, 1, GRANT));
+    goes_out(&rt, &mut system, &mut outs);
+    stands(&rt, &system);
+    is_lost(&rt, &mut system, &mut outs);
+    is_delivered(&rt, rt.alloc(), &mut system, &mut outs);
 }
