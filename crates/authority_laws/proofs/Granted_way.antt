@@ -9,7 +9,7 @@ use Rattle.list_laws.proofs.By_test.{by_test}
 use Rattle.track_points.specs.declared.ids.DirSeg.{DirSeg}
 use Rattle.track_points.specs.declared.ids.TrainId.{TrainId}
 use Rattle.track_points.specs.declared.path.Path.{Path}
-use Rattle.track_points.specs.Points.{Lengths, Point, total, end_place, no_segment_twice, steps_to, offset_to}
+use Rattle.track_points.specs.Points.{Lengths, total, end_place, no_segment_twice, steps_to, offset_to}
 use Rattle.definitions.specs.declared.message.Msg.TheVariants as msg
 use Rattle.definitions.specs.Track.{Line, seg_len, layout, joined, last_step}
 use Rattle.definitions.specs.Rules.{is_line}
@@ -20,7 +20,7 @@ use Rattle.definitions.specs.World.{entered, goes_on, journey}
 use Rattle.definitions.specs.Control.{grants_entry, controls, last_issued}
 use Rattle.definitions.specs.Longest.{longest_end, longest_route}
 use Rattle.definitions.specs.Fronts.{least_rear}
-use Rattle.definitions.specs.Limit.{further, asked_way, continues, ask_of, reach_on, reach_from}
+use Rattle.definitions.specs.Limit.{further, asked_way, continues, Bars, ask_of, reach_on, reach_from}
 use Rattle.definitions.specs.Ways.{PlainWay, steps_behind, way_between, chained, first_len}
 use Rattle.definitions.specs.Safe.{IsLineOfOneZone}
 use Rattle.definitions.specs.Zones.{zone_id}
@@ -42,9 +42,9 @@ use Rattle.authority_laws.proofs.Renewed_way.{renewed}
 
 -- A path that is lengthened fits.
 
-pub granted_ready : (line : Line) (ready silent : Bool) (path : Path) (asked : List DirSeg) (to : ℕ) (held : Point → Bool) → nat_eq (reach_from line ready silent (Some path) asked to held).distance 0 ≡ false
+pub granted_ready : (line : Line) (ready silent : Bool) (path : Path) (asked : List DirSeg) (to : ℕ) (bars : Bars) → nat_eq (reach_from line ready silent (Some path) asked to bars).distance 0 ≡ false
     → (ready ≡ true) × ((continues line path.steps.items asked ≡ true) × (silent ≡ false))
-granted_ready line ready silent path asked to held some = by_test (ready && continues line path.steps.items asked)
+granted_ready line ready silent path asked to bars some = by_test (ready && continues line path.steps.items asked)
     (λ y. by_test silent
     (λ s. absurd (let z : true ≡ false = rw (y, s) at some in cc))
     (λ s. let b = and_parts ready (continues line path.steps.items asked) y in (b.0, (b.1, s))))
@@ -80,23 +80,23 @@ grown_fits line path asked p old continued above room near =
     let few : nat_le (length cut) 24 ≡ true = grind (arith, nat_tests) in
     rw (chain, once, some_cut, from, to, order, few) refl
 
-pub grant_fits : (line : Line) (ready silent : Bool) (path : Path) (asked : List DirSeg) (to : ℕ) (held : Point → Bool) → PathParts line path → nat_eq (reach_from line ready silent (Some path) asked to held).distance 0 ≡ false
-    → path_fits line (path_to (seg_len line) path.from (asked_way path.steps.items asked) (end_place (seg_len line) path + (reach_from line ready silent (Some path) asked to held).distance)) ≡ true
-grant_fits line ready silent path asked to held old some =
+pub grant_fits : (line : Line) (ready silent : Bool) (path : Path) (asked : List DirSeg) (to : ℕ) (bars : Bars) → PathParts line path → nat_eq (reach_from line ready silent (Some path) asked to bars).distance 0 ≡ false
+    → path_fits line (path_to (seg_len line) path.from (asked_way path.steps.items asked) (end_place (seg_len line) path + (reach_from line ready silent (Some path) asked to bars).distance)) ≡ true
+grant_fits line ready silent path asked to bars old some =
     let len = seg_len line in
     let own = path.steps.items in
     let steps = asked_way own asked in
     let within = old.within in
     let some_old = old.some in
-    let go = granted_ready line ready silent path asked to held some in
+    let go = granted_ready line ready silent path asked to bars some in
     let go_on : (ready && continues line own asked) ≡ true = let a = go.0 in let b = go.1.0 in rw (a, b) refl in
     let loud = go.1.1 in
-    let reach : (reach_from line ready silent (Some path) asked to held).distance ≡ (reach_on (layout line) (ask_of len path asked to held)).distance = rw (go_on, loud) refl in
+    let reach : (reach_from line ready silent (Some path) asked to bars).distance ≡ (reach_on (layout line) (ask_of len path asked to bars)).distance = rw (go_on, loud) refl in
     let front = total_front len own (further own asked) 24 old.few in
     let some_steps : 0 < length steps = omega (arith, length-append own (further own asked), some_old) in
-    let near = reach_few (layout line) (ask_of len path asked to held) some_steps (omega (arith, within, front)) in
-    let room = reach_granted line ready silent path asked to held old.some within in
-    grown_fits line path asked (end_place len path + (reach_from line ready silent (Some path) asked to held).distance) old go.1.0 (omega arith) room (omega (arith, near, reach))
+    let near = reach_few (layout line) (ask_of len path asked to bars) some_steps (omega (arith, within, front)) in
+    let room = reach_granted line ready silent path asked to bars old.some within in
+    grown_fits line path asked (end_place len path + (reach_from line ready silent (Some path) asked to bars).distance) old go.1.0 (omega arith) room (omega (arith, near, reach))
 
 -- Steps that continue others.
 

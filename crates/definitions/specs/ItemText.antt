@@ -80,5 +80,5 @@ built_item (Portal a) = Some (known.Portal a)
 built_item (Buffer a) = Some (known.Buffer a)
 built_item (Section d ranges) = None
 built_item (Block b dir segments) = None
-built_item (Brake ticks runaway rate) = None
+built_item (Brake ticks runaway rate) = Some (known.Brake ticks runaway rate)
 built_item (Silent ms) = Some (known.Silent ms)

@@ -33,7 +33,8 @@ pub enum LineItem {
     Section(u64, ArrayVec<SectionRange, 3>),
     /// A block, its direction and its segments.
     Block(u64, Dir, ArrayVec<u64, 16>),
-    /// How trains brake: ticks of 10 ms, and the rise and the fall of the speed in mm/s per second.
+    /// How trains brake: for how many ticks of 10 ms the speed rises at first, and the rates of its rise and of its fall
+    /// in mm/s per second.
     Brake(u64, u64, u64),
     /// How many ms without a used report make a train silent.
     Silent(u64),
@@ -96,11 +97,9 @@ impl LineItem {
             LineItem::Joint(one, other) => Some(Item::Joint(*one, *other)),
             LineItem::Portal(end) => Some(Item::Portal(*end)),
             LineItem::Buffer(end) => Some(Item::Buffer(*end)),
+            LineItem::Brake(ticks, runaway, rate) => Some(Item::Brake(*ticks, *runaway, *rate)),
             LineItem::Silent(ms) => Some(Item::Silent(*ms)),
-            LineItem::Switch(..)
-            | LineItem::Section(..)
-            | LineItem::Block(..)
-            | LineItem::Brake(..) => None,
+            LineItem::Switch(..) | LineItem::Section(..) | LineItem::Block(..) => None,
         }
     }
 }

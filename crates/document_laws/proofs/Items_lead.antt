@@ -5,7 +5,7 @@ use Rattle.std.specs.Prelude.{nat_eq, count_by}
 use Rattle.std.specs.List.{list_any}
 use Rattle.list_laws.proofs.By_test.{by_test}
 use Rattle.definitions.specs.declared.item.Item.{Item}
-use Rattle.definitions.specs.declared.item.Item.TheVariants.{Zone, Segment, Joint, Portal, Buffer, Silent}
+use Rattle.definitions.specs.declared.item.Item.TheVariants.{Zone, Segment, Joint, Portal, Buffer, Brake, Silent}
 use Rattle.definitions.specs.declared.event.Event.{Event}
 use Rattle.definitions.specs.declared.document.Command.{Command}
 use Rattle.definitions.specs.declared.document.ItemLine.{ItemLine}
@@ -30,6 +30,7 @@ some_counted items c = by_test (list_any is_any_zone items) (λ y. absurd (none 
     none (Joint a b ∷ xs) y e = none xs y e
     none (Portal a ∷ xs) y e = none xs y e
     none (Buffer a ∷ xs) y e = none xs y e
+    none (Brake ticks runaway rate ∷ xs) y e = none xs y e
     none (Silent ms ∷ xs) y e = none xs y e
 
 -- an item among others of which at most one is a zone is no second zone
@@ -39,6 +40,7 @@ no_second before (Segment s z len) items c = refl
 no_second before (Joint a b) items c = refl
 no_second before (Portal a) items c = refl
 no_second before (Buffer a) items c = refl
+no_second before (Brake ticks runaway rate) items c = refl
 no_second before (Silent ms) items c = refl
 
 -- A text line among the items, by what it says.

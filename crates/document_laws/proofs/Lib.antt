@@ -5,8 +5,6 @@ pub mod Said_built
 mod Delivery_takes
 pub mod Has_room
 pub mod Alone_leads
-mod Few_numbers
-pub mod Slow_clock
 pub mod Safe_throughout
 mod Leads
 mod Written

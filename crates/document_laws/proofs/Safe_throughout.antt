@@ -7,7 +7,7 @@ use Rattle.std.specs.List.{list_any}
 use Rattle.std.proofs.lemmas.Bool.{and_parts, or_parts}
 use Rattle.list_laws.proofs.By_test.{by_test}
 use Rattle.definitions.specs.declared.item.Item.{Item}
-use Rattle.definitions.specs.declared.item.Item.TheVariants.{Zone, Segment, Joint, Portal, Buffer, Silent}
+use Rattle.definitions.specs.declared.item.Item.TheVariants.{Zone, Segment, Joint, Portal, Buffer, Brake, Silent}
 use Rattle.definitions.specs.declared.event.Event.{Event}
 use Rattle.definitions.specs.declared.document.Command.{Command}
 use Rattle.definitions.specs.declared.document.Command.TheVariants as is
@@ -28,8 +28,8 @@ use Rattle.definitions.specs.Safe.{Kept, IsLineOfOneZone}
 use Rattle.definitions.specs.Trace.{Stage, Items, Script, Checked, Over, Reading, start, is_over, input_limit, event_limit, text_read, line_read, among_items, in_script, in_check, stage_read, second_zone, item_read, begun, script_read, plan_read, event_checked, event_comes, ended_by}
 use Rattle.event_laws.proofs.Event_kept.{event_kept, event_few}
 use Rattle.document_laws.specs.Throughout.{stands, led_to, SafeHistory, SafeUpTo, SafeAt, SafeThroughout}
-use Rattle.document_laws.proofs.Few_numbers.{few_numbers}
-use Rattle.document_laws.proofs.Slow_clock.{slow_clock}
+use Rattle.event_laws.proofs.Number_most.{number_most}
+use Rattle.event_laws.proofs.Clock_most.{clock_most}
 use Rattle.document_laws.proofs.Has_room.{is_messages, OtherEnding, event_other}
 use Rattle.document_laws.proofs.Said_built.{said_built}
 
@@ -63,6 +63,7 @@ one_more items (Segment s z len) c h = omega (arith, c, zones_append items (Segm
 one_more items (Joint a b) c h = omega (arith, c, zones_append items (Joint a b ∷ []))
 one_more items (Portal a) c h = omega (arith, c, zones_append items (Portal a ∷ []))
 one_more items (Buffer a) c h = omega (arith, c, zones_append items (Buffer a ∷ []))
+one_more items (Brake ticks runaway rate) c h = omega (arith, c, zones_append items (Brake ticks runaway rate ∷ []))
 one_more items (Silent ms) c h = omega (arith, c, zones_append items (Silent ms ∷ []))
 
 -- a history that keeps the premises and the limit on events
@@ -175,12 +176,12 @@ kept_before line (suc k) [] h = h
 kept_before line (suc k) (e ∷ events) h = kept_before line k events h.1
 
 small_numbers : (line : Line) (events : List Event) → length events ≤ event_limit → SmallNumbers line events
-small_numbers line events few t = let n = few_numbers line events t in omega (arith, n, few)
+small_numbers line events few t = let n = number_most t line events in omega (arith, n, few)
 
 safe_up_to : SafeStories → (line : Line) (events : List Event) → IsLineOfOneZone line → KeptWithin line events → SafeUpTo line events
 safe_up_to safe line events one g = record {
   after = λ k. safe line (drop k events) one (kept_before line k events g.0) (small_numbers line (drop k events) (let few = g.1 in omega (arith, few, length-drop k events)));
-  early = let few = g.1 in let slow = slow_clock line events g.0 in omega (arith, few, slow);
+  early = let few = g.1 in let slow = clock_most line events g.0 in omega (arith, few, slow);
 }
 
 led_kept : (line : Line) (events : List Event) (text : List ℕ) (t : EventLine) → event_line_of line (trains (story_of line events)) text ≡ t → KeptWithin line events → KeptWithin line (led_to line events t)

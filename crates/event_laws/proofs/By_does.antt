@@ -9,9 +9,10 @@ use Rattle.track_points.specs.declared.ids.DirSeg.{DirSeg}
 use Rattle.track_points.specs.declared.ids.TrainId.{TrainId}
 use Rattle.track_points.specs.declared.path.Path.{Path}
 use Rattle.definitions.specs.declared.event.Event.{Event}
-use Rattle.definitions.specs.declared.event.Event.TheVariants.{Entry, Enter, Ask, Report, Time, Take, Noise}
+use Rattle.definitions.specs.declared.event.Event.TheVariants.{Entry, Enter, Ask, Report, Time, Close, Open, Take, Noise}
 use Rattle.definitions.specs.declared.message.Msg.{Msg}
 use Rattle.definitions.specs.declared.message.Msg.TheVariants as msg
+use Rattle.definitions.specs.declared.message.Order.TheVariants as orders
 use Rattle.definitions.specs.declared.outcome.FrameFault.{FrameFault}
 use Rattle.definitions.specs.Track.{Line, zone_of, is_actor}
 use Rattle.definitions.specs.Frames.{frame_at}
@@ -49,7 +50,7 @@ tells s e to x r = record {
 
 enter_issues : (s : Story) (e : Event) (t : TrainId) (zone : Option ℕ) → AtMostOne (Tells s e) (entering (clock s) t zone).issued
 enter_issues s e t None = says_nothing refl
-enter_issues s e t (Some zone) = says_one _ refl (tells s e zone _ (replies s t zone 1))
+enter_issues s e t (Some zone) = says_one _ refl (tells s e zone _ (replies s t zone 1 true))
 
 request_issues : (s : Story) (e : Event) (t : TrainId) (step : DirSeg) (zone : ℕ) (f : Option Facts) → AtMostOne (Tells s e) (requesting (clock s) t step zone f).issued
 request_issues s e t step zone None = says_nothing refl
@@ -70,7 +71,7 @@ pub record TakeOf (s : Story) (e : Event) (to from : ℕ) (m : Msg) : Type 0 whe
 
 by_message : (line : Line) (s : Story) (to from number : ℕ) (r : Option Msg) → message from to number s ≡ r → (P : Transition → Type 0)
     → ((a : ℕ) (x : Effect) → AtMostOne (Tells s (Take to from number)) x.issued → P (transition (Take to from number) a None x))
-    → ((y : ℕ) (m : Msg) (k : TakeOf s (Take to from number) 0 y m) → P (transition (Take 0 y k.number) 0 (Some (y, m)) (world_takes s y m)))
+    → ((y : ℕ) (m : Msg) (k : TakeOf s (Take to from number) 0 y m) → P (transition (Take 0 y k.number) 0 (Some (y, m)) (world_takes line s y m)))
     → ((z y : ℕ) (m : Msg) (k : TakeOf s (Take to from number) (suc z) y m) → P (transition (Take (suc z) y k.number) (suc z) (Some (y, m)) (zone_step line (suc z) y s m)))
     → P (taking line s (Take to from number) to from r)
 by_message line s to from number None is P own world zone = own to nothing (says_nothing refl)
@@ -79,7 +80,7 @@ by_message line s (suc z) from number (Some m) is P own world zone = zone z from
 
 pub by_does : (line : Line) (s : Story) (e : Event) (P : Transition → Type 0)
     → ((a : ℕ) (x : Effect) → AtMostOne (Tells s e) x.issued → P (transition e a None x))
-    → ((from : ℕ) (m : Msg) (k : TakeOf s e 0 from m) → P (transition (Take 0 from k.number) 0 (Some (from, m)) (world_takes s from m)))
+    → ((from : ℕ) (m : Msg) (k : TakeOf s e 0 from m) → P (transition (Take 0 from k.number) 0 (Some (from, m)) (world_takes line s from m)))
     → ((z from : ℕ) (m : Msg) (k : TakeOf s e (suc z) from m) → P (transition (Take (suc z) from k.number) (suc z) (Some (from, m)) (zone_step line (suc z) from s m)))
     → P (effects line s e)
 by_does line s (Take to from number) P own world zone = by_message line s to from number (message from to number s) refl P own world zone
@@ -88,6 +89,8 @@ by_does line s (Enter t) P own world zone = own 0 (entering (clock s) t (sender_
 by_does line s (Ask t z steps to) P own world zone = own 0 (telling z.0 (msg.Ask t (clock s) steps to)) (says_one _ refl (record { time = refl; unauthorized = λ t. refl; reported = λ h. absurd cc }))
 by_does line s (Report t z step offset whole) P own world zone = own 0 (telling z.0 (reporting line s t offset whole)) (says_one _ refl (record { time = refl; unauthorized = λ t. refl; reported = λ h. refl }))
 by_does line s (Time z t) P own world zone = own 0 (telling z.0 (msg.Time (clock s) t)) (says_one _ refl (record { time = refl; unauthorized = λ t. refl; reported = λ h. absurd cc }))
+by_does line s (Close seg) P own world zone = own 0 (telling (zone_of line seg.0) (msg.Order (clock s) (orders.Close seg))) (says_one _ refl (record { time = refl; unauthorized = λ t. refl; reported = λ h. absurd cc }))
+by_does line s (Open seg) P own world zone = own 0 (telling (zone_of line seg.0) (msg.Order (clock s) (orders.Open seg))) (says_one _ refl (record { time = refl; unauthorized = λ t. refl; reported = λ h. absurd cc }))
 by_does line s (Noise to from bytes) P own world zone = own 0 (hearing_noise to (frame_at bytes.items)) (says_nothing (noise_issues to (frame_at bytes.items)))
 by_does line s _ P own world zone = own 0 nothing (says_nothing refl)
 
@@ -101,7 +104,7 @@ effect_event line s e = by_does line s e (λ x. x.event ≡ e) (λ a x i. refl) 
 pub issues_each : (Q : Msg → Type 0) (line : Line) (s : Story) (e : Event) → ((x : ℕ × Msg) → Tells s e x → Q x.1) → ((q : Msg) → (number mark : ℕ) (path : Path) → Q (msg.Auth (train_of q) number mark path)) → AllIn Q (effects line s e).issued
 issues_each Q line s e told granted = by_does line s e (λ x. AllIn Q x.issued)
     (λ a x i. each_issued (Tells s e) Q told x.issued i)
-    (λ from m k. each_issued (Replies s from) Q (λ x r. told x (tells s e from x r)) (world_takes s from m).issued (world_issues s from m))
+    (λ from m k. each_issued (Replies s from) Q (λ x r. told x (tells s e from x r)) (world_takes line s from m).issued (world_issues line s from m))
     (λ z from m k. zone_each Q line (suc z) from s m (λ number mark path most. granted m number mark path))
 
 pub told_none : (t : ℕ) (s : Story) (e : Event) (issued : List (ℕ × Msg)) → AtMostOne (Tells s e) issued → NoAuth t issued
@@ -110,7 +113,7 @@ told_none t s e issued i = each_issued (Tells s e) (λ m. is_auth t m ≡ false)
 -- an event that takes nothing issues no authority
 pub untaken_none : (t : ℕ) (line : Line) (s : Story) (e : Event) → (effects line s e).took ≡ None → NoAuth t (effects line s e).issued
 untaken_none t line s e h = by_does line s e (λ x. x.took ≡ None → NoAuth t x.issued)
-    (λ a x i h. told_none t s e x.issued i) (λ from m k h. world_none t s from m) (λ z from m k h. absurd cc) h
+    (λ a x i h. told_none t s e x.issued i) (λ from m k h. world_none t line s from m) (λ z from m k h. absurd cc) h
 
 -- no report but by the event of one
 unreported : (s : Story) (e : Event) → reports e ≡ false → (x : ℕ × Msg) → Tells s e x → is_report x.1 ≡ false

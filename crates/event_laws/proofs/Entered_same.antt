@@ -35,12 +35,6 @@ sent_any test from to (e ∷ s) h = by_test (nat_eq e.actor from)
 pub was_issued : (test : Msg → Bool) (from to : ℕ) (s : Story) (k : ℕ) (m : Msg) → slice_get (sent from to s) k ≡ Some m → test m ≡ true → ever_issued test s ≡ true
 was_issued test from to s k m h e = sent_any test from to s (any_passes_from_place test (sent from to s) k m h e)
 
--- where a test never passed, a message of a link does not pass it
-pub never_passes : (test : Msg → Bool) (from to : ℕ) (s : Story) (k : ℕ) (m : Msg) → slice_get (sent from to s) k ≡ Some m → ever_issued test s ≡ false → test m ≡ false
-never_passes test from to s k m h e = by_test (test m)
-    (λ y. absurd (let x = was_issued test from to s k m h y in cc))
-    (λ n. n)
-
 -- Greatest numbers.
 
 pub in_most : (number : Msg → ℕ) (n : ℕ) (issued : List (ℕ × Msg)) → list_any (λ (x : ℕ × Msg). nat_le n (number x.1)) issued ≡ true → n ≤ greatest_in number issued
@@ -74,17 +68,6 @@ ever_weaker f g w [] h = h
 ever_weaker f g w (e ∷ s) h = by_or (list_any (λ (x : ℕ × Msg). f x.1) e.issued) (ever_issued f s) h
     (λ a. or_left (list_any (λ (x : ℕ × Msg). g x.1) e.issued) (ever_issued g s) (in_weaker f g w e.issued a))
     (λ b. or_right (list_any (λ (x : ℕ × Msg). g x.1) e.issued) (ever_issued g s) (ever_weaker f g w s b))
-
-pub never_weaker : (f g : Msg → Bool) → ((m : Msg) → f m ≡ true → g m ≡ true) → (s : Story) → ever_issued g s ≡ false → ever_issued f s ≡ false
-never_weaker f g w s h = by_test (ever_issued f s)
-    (λ y. absurd (let x = ever_weaker f g w s y in cc))
-    (λ n. n)
-
--- what passes a stronger test is not among messages of which none passes a weaker one
-pub in_weaker_none : (f g : Msg → Bool) → ((m : Msg) → f m ≡ true → g m ≡ true) → (issued : List (ℕ × Msg)) → list_any (λ (x : ℕ × Msg). g x.1) issued ≡ false → list_any (λ (x : ℕ × Msg). f x.1) issued ≡ false
-in_weaker_none f g w issued h = by_test (list_any (λ (x : ℕ × Msg). f x.1) issued)
-    (λ y. absurd (let x = in_weaker f g w issued y in cc))
-    (λ n. n)
 
 -- What was told first.
 
@@ -121,7 +104,3 @@ ever_stays test e s h = or_right (test e) (ever test s) h
 
 pub entered_same : (t : ℕ) (e : Transition) (s : Story) → enters t e.event ≡ false → entered t (e ∷ s) ≡ entered t s
 entered_same t e s h = ever_same (λ (x : Transition). enters t x.event) e s h
-
-pub same_ever : (test : Msg → Bool) (e : Transition) (s : Story) → list_any (λ (x : ℕ × Msg). test x.1) e.issued ≡ false → ever_issued test (e ∷ s) ≡ ever_issued test s
-unfolding ever_issued
-same_ever test e s h = rw h refl

@@ -54,5 +54,5 @@ zone_grants line s e z t y from m h = absurd (let c = no_grant (nat_eq (suc y) z
 pub grant_takes : (line : Line) (s : Story) (e : Event) (z t : ℕ) → grants_entry z t (effects line s e) ≡ true → (controls z t s ≡ false) × (enters t (effects line s e).event ≡ false)
 grant_takes line s e z t = by_does line s e (λ x. grants_entry z t x ≡ true → (controls z t s ≡ false) × (enters t x.event ≡ false))
     (λ a x i h. absurd (let c = no_grant (nat_eq a z) (list_any (λ (y : ℕ × Msg). is_auth t y.1) x.issued) h in cc))
-    (λ from m k h. absurd (let c : true ≡ false = sym h ∙ quiet_grants z t (transition (Take 0 from k.number) 0 (Some (from, m)) (world_takes s from m)) (world_none t s from m) in cc))
+    (λ from m k h. absurd (let c : true ≡ false = sym h ∙ quiet_grants z t (transition (Take 0 from k.number) 0 (Some (from, m)) (world_takes line s from m)) (world_none t line s from m) in cc))
     (λ y from m k h. (controls_knows z t s ∙ zone_grants line s (Take (suc y) from k.number) z t y from m h, refl))

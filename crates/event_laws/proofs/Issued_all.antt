@@ -127,8 +127,3 @@ false_all : (test : Msg → Bool) (s : Story) → AllIssued (λ m. test m ≡ fa
 unfolding AllIssued ever_issued
 false_all test [] a = refl
 false_all test (e ∷ s) a = let h = in_false_all test e.issued a.0 in rw h (false_all test s a.1)
-
--- no message that was issued passes a test where it never passed, and the other way round
-pub all_true : (test : Msg → Bool) (s : Story)
-    → (ever_issued test s ≡ false → AllIssued (λ m. test m ≡ false) s) × (AllIssued (λ m. test m ≡ false) s → ever_issued test s ≡ false)
-all_true test s = (all_false test s, false_all test s)

@@ -15,3 +15,5 @@ pub mod Messages_most
 pub mod Comes_kept
 pub mod Delivery_admitted
 pub mod Event_kept
+pub mod Clock_most
+pub mod Number_most

@@ -21,7 +21,7 @@ one_most P issued (says_one x h p) = rw h (omega arith)
 pub issues_one : (line : Line) (s : Story) (e : Event) → length (effects line s e).issued ≤ 1
 issues_one line s e = by_does line s e (λ x. length x.issued ≤ 1)
     (λ a x i. one_most _ x.issued i)
-    (λ from m k. one_most _ (world_takes s from m).issued (world_issues s from m))
+    (λ from m k. one_most _ (world_takes line s from m).issued (world_issues line s from m))
     (λ z from m k. one_most _ _ (zone_issues line (suc z) from s m))
 
 pub messages_most : (line : Line) (es : List Event) → messages (story_of line es) ≤ length es

@@ -7,7 +7,7 @@ use Rattle.list_laws.proofs.By_test.{none_of, by_test}
 use Rattle.definitions.specs.declared.message.Msg.{Msg}
 use Rattle.definitions.specs.Track.{Line}
 use Rattle.definitions.specs.Story.{Transition, Story, or_else, to_actor, sent, first_told, world_took}
-use Rattle.definitions.specs.World.{elapsed, clock, facts_in, facts_of, is_declared, with_train, trains, entry_in, first_entry, enters, entered, moved, head, goes_on, journey, taken_number, taken_path, taken_entry, entry_authority, last_number, limit_held}
+use Rattle.definitions.specs.World.{elapsed, clock, facts_in, facts_of, is_declared, with_train, trains, entry_in, first_entry, enters, entered, moved, head, goes_on, journey, taken_number, taken_path, taken_entry, entry_authority, is_new_to, accepts_some, last_number, limit_held, limit_place}
 use Rattle.event_laws.proofs.Entered_same.{same_told, entered_same}
 
 -- an entry that neither declares, lets on nor moves a train, nor asks for its entry, nor takes an authority of it
@@ -96,20 +96,20 @@ last_still t x s off none =
     let zero_more : max (last_number t s) 0 ≡ last_number t s = omega arith in
     by_test (entered t s) (λ y. rw (off, y, none) zero_more) (λ n. rw (off, n) refl)
 
-pub limit_kept : (t : ℕ) (x : Transition) (s : Story) → enters t x.event ≡ false → nat_lt (last_number t s) (taken_number t (world_took x)) ≡ false → limit_held t (x ∷ s) ≡ limit_held t s
+pub limit_kept : (line : Line) (t : ℕ) (x : Transition) (s : Story) → enters t x.event ≡ false → nat_lt (last_number t s) (taken_number t (world_took x)) ≡ false → limit_held line t (x ∷ s) ≡ limit_held line t s
 unfolding limit_held
-limit_kept t x s off old = by_test (entered t s) (λ on. rw (off, on, old) refl) (λ n. rw (off, n) refl)
+limit_kept line t x s off old = by_test (entered t s) (λ on. rw (off, on, old) refl) (λ n. rw (off, n) refl)
 
-pub limit_still : (t : ℕ) (x : Transition) (s : Story) → enters t x.event ≡ false → taken_number t (world_took x) ≡ 0 → limit_held t (x ∷ s) ≡ limit_held t s
-limit_still t x s off none = limit_kept t x s off (rw none (grind (arith, nat_tests)))
+pub limit_still : (line : Line) (t : ℕ) (x : Transition) (s : Story) → enters t x.event ≡ false → taken_number t (world_took x) ≡ 0 → limit_held line t (x ∷ s) ≡ limit_held line t s
+limit_still line t x s off none = limit_kept line t x s off (rw none (grind (arith, nat_tests)))
 
 pub number_on : (t : ℕ) (x : Transition) (s : Story) → enters t x.event ≡ true → last_number t (x ∷ s) ≡ 1
 unfolding last_number
 number_on t x s h = rw h refl
 
-pub limit_on : (t : ℕ) (x : Transition) (s : Story) → enters t x.event ≡ true → limit_held t (x ∷ s) ≡ entry_authority t s
+pub limit_on : (line : Line) (t : ℕ) (x : Transition) (s : Story) → enters t x.event ≡ true → limit_held line t (x ∷ s) ≡ entry_authority t s
 unfolding limit_held
-limit_on t x s h = rw h refl
+limit_on line t x s h = rw h refl
 
 pub number_next : (t : ℕ) (x : Transition) (s : Story) → enters t x.event ≡ false → entered t s ≡ true → last_number t (x ∷ s) ≡ max (last_number t s) (taken_number t (world_took x))
 unfolding last_number
@@ -119,9 +119,15 @@ pub number_off : (t : ℕ) (x : Transition) (s : Story) → enters t x.event ≡
 unfolding last_number
 number_off t x s h off = rw (h, off) refl
 
-pub limit_next : (t : ℕ) (x : Transition) (s : Story) → enters t x.event ≡ false → entered t s ≡ true → nat_lt (last_number t s) (taken_number t (world_took x)) ≡ true → limit_held t (x ∷ s) ≡ taken_path t (world_took x)
+-- a new number that it takes, and one that it refuses
+pub limit_next : (line : Line) (t : ℕ) (x : Transition) (s : Story) → enters t x.event ≡ false → entered t s ≡ true → nat_lt (last_number t s) (taken_number t (world_took x)) ≡ true
+    → accepts_some line t s (limit_place line t s) (taken_path t (world_took x)) ≡ true → limit_held line t (x ∷ s) ≡ taken_path t (world_took x)
 unfolding limit_held
-limit_next t x s h on new = rw (h, on, new) refl
+limit_next line t x s h on new accepted = rw (h, on, new, accepted) refl
+
+pub limit_refused : (line : Line) (t : ℕ) (x : Transition) (s : Story) → enters t x.event ≡ false → accepts_some line t s (limit_place line t s) (taken_path t (world_took x)) ≡ false → limit_held line t (x ∷ s) ≡ limit_held line t s
+unfolding limit_held
+limit_refused line t x s h refused = by_test (is_new_to t x s) (λ y. rw (h, y, refused) refl) (λ n. rw (h, n) refl)
 
 -- What is kept where a train is not spoken of.
 

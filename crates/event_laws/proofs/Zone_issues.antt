@@ -9,16 +9,18 @@ use Rattle.track_points.specs.declared.path.Path.{Path}
 use Rattle.track_points.specs.Points.{Lengths, end_place}
 use Rattle.definitions.specs.declared.message.Msg.{Msg}
 use Rattle.definitions.specs.declared.message.Msg.TheVariants as msg
+use Rattle.definitions.specs.declared.message.Order.{Order}
+use Rattle.definitions.specs.declared.message.Order.TheVariants.{Close, Open}
 use Rattle.definitions.specs.Track.{Line, seg_len}
 use Rattle.definitions.specs.Ways.{PlainWay}
 use Rattle.definitions.specs.Story.{Story}
-use Rattle.definitions.specs.World.{clock, entered, last_number, is_auth}
+use Rattle.definitions.specs.World.{clock, entered, last_number, last_taken, accepts, limit_place, is_auth}
 use Rattle.definitions.specs.Control.{controls, knows, knows_most, now_with, last_issued}
 use Rattle.definitions.specs.Longest.{counted}
 use Rattle.definitions.specs.Fronts.{is_used, possible_front}
 use Rattle.definitions.specs.Authority.{way, holder_of}
 use Rattle.definitions.specs.Limit.{Reach, asked_way, limit}
-use Rattle.definitions.specs.Steps.{entry_path, path_to, zone_entry, zone_ask, zone_report, zone_time, zone_takes, taking_auth, world_takes}
+use Rattle.definitions.specs.Steps.{entry_path, path_to, zone_entry, zone_ask, zone_report, zone_time, zone_order, zone_takes, taking_auth, world_takes}
 use Rattle.event_laws.proofs.Issued_all.{AllIn, AtMostOne, says_nothing, says_one, each_issued, NoAuth}
 
 -- A zone.
@@ -50,6 +52,11 @@ time_cases P true counted_ last u (Some v) f g = by_test (nat_lt counted_ last)
 
 pub report_none : (line : Line) (z : ℕ) (s : Story) (u : TrainId) (m : Msg) → (zone_report line z s u m).issued ≡ []
 report_none line z s u m = by_test (is_used line z u.0 s (possible_front line z u.0 s) m) (λ y. rw y refl) (λ n. rw n refl)
+
+pub order_none : (z : ℕ) (order : Order) → (zone_order z order).issued ≡ []
+order_none z (Close seg) = refl
+order_none z (Open seg) = refl
+order_none z _ = refl
 
 -- the train of which a zone may issue an authority for a message: the one that it names; 0 where it issues none
 abbrev pub train_of : Msg → TrainId
@@ -90,6 +97,7 @@ zone_issues line z from s (msg.Time time u) =
     time_cases (AtMostOne (Grants s q) (zone_takes line z from s q).issued) (controls z u.0 s) (counted line u.0 s) (last_issued u.0 s) u (way line z u.0 s)
     (λ h. says_nothing h) (λ v is c h. says_one _ h (grants s q _ _ _ (omega arith)))
 zone_issues line z from s (msg.Report u time mark offset integrity) = says_nothing (report_none line z s u (msg.Report u time mark offset integrity))
+zone_issues line z from s (msg.Order time order) = says_nothing (order_none z order)
 zone_issues line z from s _ = says_nothing refl
 
 -- what each message is that a zone issues
@@ -107,25 +115,27 @@ pub record Replies (s : Story) (to : ℕ) (x : ℕ × Msg) : Type 0 where
   pub to_sender : x.0 ≡ to
   pub train : TrainId
   pub number : ℕ
-  pub is : x.1 ≡ msg.Answer train (clock s) number true
+  pub taken : Bool
+  pub is : x.1 ≡ msg.Answer train (clock s) number taken
 
-pub replies : (s : Story) (t : TrainId) (zone number : ℕ) → Replies s zone (zone, msg.Answer t (clock s) number true)
-replies s t zone number = record { to_sender = refl; train = t; number = number; is = refl }
+pub replies : (s : Story) (t : TrainId) (zone number : ℕ) (taken : Bool) → Replies s zone (zone, msg.Answer t (clock s) number taken)
+replies s t zone number taken = record { to_sender = refl; train = t; number = number; taken = taken; is = refl }
 
-auth_issues : (s : Story) (on : Bool) (last : ℕ) (t : TrainId) (zone number : ℕ) → AtMostOne (Replies s zone) (taking_auth (clock s) on last t zone number).issued
-auth_issues s false last t zone number = says_nothing refl
-auth_issues s true last t zone number = by_test (nat_lt last number)
-    (λ y. rw y (says_one _ refl (replies s t zone number)))
-    (λ n. rw n (says_one _ refl (replies s t zone last)))
+auth_issues : (s : Story) (on : Bool) (last : ℕ) (was_taken takes_it : Bool) (t : TrainId) (zone number : ℕ) → AtMostOne (Replies s zone) (taking_auth (clock s) on last was_taken takes_it t zone number).issued
+auth_issues s false last was_taken takes_it t zone number = says_nothing refl
+auth_issues s true last was_taken takes_it t zone number = by_test (nat_lt last number)
+    (λ y. rw y (says_one _ refl (replies s t zone number takes_it)))
+    (λ n. rw n (says_one _ refl (replies s t zone last was_taken)))
 
-pub world_issues : (s : Story) (from : ℕ) (m : Msg) → AtMostOne (Replies s from) (world_takes s from m).issued
-world_issues s from (msg.Auth t number mark path) = auth_issues s (entered t.0 s) (last_number t.0 s) t from number
-world_issues s from _ = says_nothing refl
+pub world_issues : (line : Line) (s : Story) (from : ℕ) (m : Msg) → AtMostOne (Replies s from) (world_takes line s from m).issued
+world_issues line s from (msg.Auth t number mark path) =
+    auth_issues s (entered t.0 s) (last_number t.0 s) (last_taken line t.0 s) (accepts line t.0 s (limit_place line t.0 s) (record { mark = mark; path = path })) t from number
+world_issues line s from _ = says_nothing refl
 
 -- what each message is that the world issues for one that it takes
-pub world_each : (Q : Msg → Type 0) (s : Story) (from : ℕ) (m : Msg) → ((t : TrainId) (number : ℕ) → Q (msg.Answer t (clock s) number true)) → AllIn Q (world_takes s from m).issued
-world_each Q s from m all = each_issued (Replies s from) Q (λ x r. subst Q (sym r.is) (all r.train r.number)) (world_takes s from m).issued (world_issues s from m)
+pub world_each : (Q : Msg → Type 0) (line : Line) (s : Story) (from : ℕ) (m : Msg) → ((t : TrainId) (number : ℕ) (taken : Bool) → Q (msg.Answer t (clock s) number taken)) → AllIn Q (world_takes line s from m).issued
+world_each Q line s from m all = each_issued (Replies s from) Q (λ x r. subst Q (sym r.is) (all r.train r.number r.taken)) (world_takes line s from m).issued (world_issues line s from m)
 
 -- no authority
-pub world_none : (t : ℕ) (s : Story) (from : ℕ) (m : Msg) → NoAuth t (world_takes s from m).issued
-world_none t s from m = world_each (λ n. is_auth t n ≡ false) s from m (λ u number. refl)
+pub world_none : (t : ℕ) (line : Line) (s : Story) (from : ℕ) (m : Msg) → NoAuth t (world_takes line s from m).issued
+world_none t line s from m = world_each (λ n. is_auth t n ≡ false) line s from m (λ u number taken. refl)

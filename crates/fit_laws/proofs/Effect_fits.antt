@@ -1,5 +1,5 @@
 -- What an event issues is in its ranges.
-use Rattle.std.proofs.Common.{◌≡◌, ℕ, zero, suc, ◌-◌, ◌≤◌, ◌∷◌, length, Option, Some, None, Bool, true, false, ◌||◌, not, refl, sym, ap, subst, arith}
+use Rattle.std.proofs.Common.{◌≡◌, ℕ, zero, suc, ◌-◌, ◌≤◌, ◌∷◌, length, Option, Some, None, Bool, true, ◌||◌, not, refl, sym, ap, subst, arith}
 use Rattle.std.proofs.lemmas.Bool.{and_parts, eqb-true}
 use Rattle.std.proofs.lemmas.Bool.Decides.{nat_tests}
 use Rattle.std.specs.Prelude.{ℤ, pos, ◌-ℤ◌, nat_eq, is_some}
@@ -8,14 +8,16 @@ use Rattle.std.specs.List.{list_all}
 use Rattle.list_laws.proofs.By_test.{by_or}
 use Rattle.arrayvec.specs.ArrayVec.{ArrayVec}
 use Rattle.track_points.specs.declared.ids.DirSeg.{DirSeg}
+use Rattle.track_points.specs.declared.ids.SegId.{SegId}
 use Rattle.track_points.specs.declared.ids.TrainId.{TrainId}
 use Rattle.definitions.specs.declared.event.Event.{Event}
-use Rattle.definitions.specs.declared.event.Event.TheVariants.{Entry, Enter, Ask, Report, Time, Take, Noise}
+use Rattle.definitions.specs.declared.event.Event.TheVariants.{Entry, Enter, Ask, Report, Time, Close, Open, Take, Noise}
 use Rattle.definitions.specs.declared.message.Msg.{Msg}
 use Rattle.definitions.specs.declared.message.Msg.TheVariants as msg
-use Rattle.definitions.specs.FrameLayouts.{train, id, any_train, time, any, yes, end, facts, report, time_told, entry_ask, ask}
+use Rattle.definitions.specs.declared.message.Order.TheVariants as orders
+use Rattle.definitions.specs.FrameLayouts.{train, id, any_train, time, any, end, facts, report, time_told, entry_ask, ask, order_fields, order, order_told}
 use Rattle.definitions.specs.Frames.{Fits, frame_at}
-use Rattle.definitions.specs.Track.{Line, ranged, zone_of, has_zone, begins_at_portal, is_actor}
+use Rattle.definitions.specs.Track.{Line, ranged, zone_of, has_zone, has_segment, begins_at_portal, is_actor}
 use Rattle.definitions.specs.Premises.{on_line}
 use Rattle.definitions.specs.Story.{Story}
 use Rattle.definitions.specs.World.{Facts, clock, facts_of, is_declared, entered, HeldPath, entry_authority}
@@ -31,13 +33,9 @@ use Rattle.invariant_laws.proofs.One_route.{on_controls}
 use Rattle.step_laws.proofs.Effect_issues.{taker_is}
 use Rattle.fit_laws.proofs.Facts_in_range.{FactsInRange}
 use Rattle.fit_laws.proofs.Offset_fits.{offset_fits}
+use Rattle.fit_laws.proofs.Segment_ranges.{segment_ranges}
 use Rattle.fit_laws.proofs.Steps_fit.{step_fits, steps_fit}
-use Rattle.fit_laws.proofs.Zone_fits.{Bounded, train_fits, answer_fits, mark_fits, world_fits, zone_fits}
-
-yes_fits : (b : Bool) → yes.fits b
-unfolding yes
-yes_fits true = ((omega arith, omega arith), refl)
-yes_fits false = ((omega arith, omega arith), refl)
+use Rattle.fit_laws.proofs.Zone_fits.{Bounded, train_fits, yes_fits, answer_fits, mark_fits, world_fits, zone_fits}
 
 module _ (line : Line) (s : Story) (one : IsLineOfOneZone line) (b : Bounded s) (k : (t : ℕ) → Invariant line t s) where
   facts_fit : (u : TrainId) (f : Facts) → FactsInRange u.0 f → facts.fits (f.long, (f.error, (f.speed, true)))
@@ -56,7 +54,7 @@ module _ (line : Line) (s : Story) (one : IsLineOfOneZone line) (b : Bounded s) 
   entered_fits : (u : TrainId) (h : Option HeldPath) → entry_authority u.0 s ≡ h → is_declared u.0 s ≡ true → AllIn Fits (entering (clock s) u (sender_of h)).issued
   unfolding AllIn
   entered_fits u None is declared = tt
-  entered_fits u (Some h) is declared = (answer_fits s b u 1 declared (omega arith) ((k u.0).authorized.entry h is).issued, tt)
+  entered_fits u (Some h) is declared = (answer_fits s b u 1 true declared (omega arith) ((k u.0).authorized.entry h is).issued, tt)
 
   asked_fits : (u : TrainId) (steps : ArrayVec DirSeg) (to : ℕ) → is_declared u.0 s ≡ true → ranged 1 24 (length steps.items) ≡ true → list_all (on_line line) steps.items ≡ true → ranged 1 10000000 to ≡ true
       → Fits (msg.Ask u (clock s) steps to)
@@ -83,6 +81,21 @@ module _ (line : Line) (s : Story) (one : IsLineOfOneZone line) (b : Bounded s) 
         (λ none. ((omega arith, let z = eqb-true u.0 0 none in omega (arith, z)), refl))
         (λ declared. let f = train_fits s b u declared in let most = f.0.1 in ((omega arith, omega (arith, most)), refl)),
   )
+
+  -- an order on a segment of the line
+  closed_fits : (seg : SegId) → has_segment line seg.0 ≡ true → Fits (msg.Order (clock s) (orders.Close seg))
+  unfolding Fits order_told time order order_fields id
+  closed_fits seg h =
+      let r = segment_ranges line seg.0 one.valid h in
+      let most = r.most in
+      ((omega arith, b.time), (((omega arith, omega arith), ((r.least, omega (arith, most)), (((omega arith, omega arith), refl), (omega arith, omega arith)))), refl))
+
+  opened_fits : (seg : SegId) → has_segment line seg.0 ≡ true → Fits (msg.Order (clock s) (orders.Open seg))
+  unfolding Fits order_told time order order_fields id
+  opened_fits seg h =
+      let r = segment_ranges line seg.0 one.valid h in
+      let most = r.most in
+      ((omega arith, b.time), (((omega arith, omega arith), ((r.least, omega (arith, most)), (((omega arith, omega arith), refl), (omega arith, omega arith)))), refl))
 
   take_fits : (e : Event) (to from number : ℕ) (r : Option Msg) → message from to number s ≡ r → is_actor line to ≡ true → Bounded (taking line s e to from r ∷ s) → ((t : ℕ) → Invariant line t (taking line s e to from r ∷ s))
       → AllIn Fits (taking line s e to from r).issued
@@ -118,5 +131,7 @@ module _ (line : Line) (s : Story) (one : IsLineOfOneZone line) (b : Bounded s) 
   effect_fits (Take to from number) a after next =
       let b = and_parts (not (nat_eq to from)) _ a.form in
       take_fits (Take to from number) to from number (message from to number s) refl (and_parts (is_actor line to) (is_actor line from) b.1).0 after next
+  effect_fits (Close seg) a after next = (closed_fits seg a.form, tt)
+  effect_fits (Open seg) a after next = (opened_fits seg a.form, tt)
   effect_fits (Noise to from bytes) a after next = rw (noise_issues to (frame_at bytes.items)) tt
   effect_fits _ a after next = tt

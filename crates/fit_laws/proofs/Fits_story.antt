@@ -11,9 +11,9 @@ use Rattle.definitions.specs.Safe.{IsLineOfOneZone, Kept}
 use Rattle.event_laws.proofs.Issued_all.{AllIssued, issued_all}
 use Rattle.event_laws.proofs.Admitted.{admitted}
 use Rattle.step_laws.proofs.Invariant_story.{invariant_story}
-use Rattle.fit_laws.proofs.Clock_most.{clock_most}
+use Rattle.event_laws.proofs.Clock_most.{clock_most}
 use Rattle.fit_laws.proofs.Facts_in_range.{facts_in_range}
-use Rattle.fit_laws.proofs.Number_most.{number_most}
+use Rattle.event_laws.proofs.Number_most.{number_most}
 use Rattle.fit_laws.proofs.Zone_fits.{Bounded}
 use Rattle.fit_laws.proofs.Effect_fits.{effect_fits}
 

@@ -3,8 +3,6 @@ pub mod Steps_fit
 pub mod Path_in_frame
 pub mod Offset_fits
 pub mod Facts_in_range
-pub mod Clock_most
-pub mod Number_most
 pub mod Numbered_on
 pub mod Zone_fits
 pub mod Effect_fits

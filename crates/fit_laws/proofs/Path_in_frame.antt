@@ -38,5 +38,5 @@ path_in_frame line p l fits own above from =
     let k = path_parts line p fits in
     let to = k.to in
     let some = k.some in
-    let last = (segment_ranges line (last_step p.steps.items) l (last_on_line line p.steps.items k.some own)).short in
+    let last = (segment_ranges line (last_step p.steps.items).seg.0 l (last_on_line line p.steps.items k.some own)).short in
     ((steps_fit line p.steps l own (omega (arith, some)) k.few, ((omega arith, from), (ends (seg_len line) p above k.order, omega (arith, to, last)))), refl)

@@ -3,12 +3,10 @@ use Rattle.std.proofs.Common.{◌≡◌, ℕ, ◌≤◌, List, [], ◌∷◌, �
 use Rattle.std.proofs.lemmas.Bool.{eqb-true, and_parts}
 use Rattle.std.proofs.lemmas.Bool.Decides.{nat_tests}
 use Rattle.list_laws.proofs.By_test.{by_test}
-use Rattle.track_points.specs.declared.ids.DirSeg.{DirSeg}
 use Rattle.definitions.specs.declared.item.Item.{Item}
-use Rattle.definitions.specs.declared.item.Item.TheVariants.{Zone, Segment, Joint, Portal, Buffer, Silent}
+use Rattle.definitions.specs.declared.item.Item.TheVariants.{Zone, Segment, Joint, Portal, Buffer, Brake, Silent}
 use Rattle.definitions.specs.Track.{Line, ranged, is_segment, length_in, has_segment, seg_len}
 use Rattle.definitions.specs.Rules.{rule_of, builds, is_line}
-use Rattle.definitions.specs.Premises.{on_line}
 use Rattle.definitions.proofs.Unbroken.{unbroken}
 use Rattle.way_laws.proofs.Line_builds.{builds_step, line_builds}
 
@@ -32,6 +30,7 @@ item_in before (Zone y) s h k = absurd cc
 item_in before (Joint x y) s h k = absurd cc
 item_in before (Portal y) s h k = absurd cc
 item_in before (Buffer y) s h k = absurd cc
+item_in before (Brake ticks runaway rate) s h k = absurd cc
 item_in before (Silent ms) s h k = absurd cc
 
 declared_in : (items before : List Item) (s : ℕ) → builds before items ≡ true → has_segment items s ≡ true → SegmentRanges s (seg_len items s)
@@ -43,5 +42,5 @@ declared_in (i ∷ items) before s b h =
     (λ y. rw y (item_in before i s k.0 y))
     (λ n. rw n (declared_in items (before ++ i ∷ []) s k.1 (rw n at h)))
 
-pub segment_ranges : (line : Line) (st : DirSeg) → is_line line ≡ true → on_line line st ≡ true → SegmentRanges st.seg.0 (seg_len line st.seg.0)
-segment_ranges line st l h = declared_in line [] st.seg.0 (line_builds line l) h
+pub segment_ranges : (line : Line) (s : ℕ) → is_line line ≡ true → has_segment line s ≡ true → SegmentRanges s (seg_len line s)
+segment_ranges line s l h = declared_in line [] s (line_builds line l) h

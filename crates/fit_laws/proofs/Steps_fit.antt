@@ -31,7 +31,7 @@ step_back n Down most =
 pub step_fits : (line : Line) (st : DirSeg) → is_line line ≡ true → on_line line st ≡ true → step.fits st
 unfolding step
 step_fits line st l h =
-    let r = segment_ranges line st l h in
+    let r = segment_ranges line st.seg.0 l h in
     let least = r.least in
     let back = step_back st.seg.0 st.dir r.most in
     let some : nat_lt 0 st.seg.0 ≡ true = grind (arith, nat_tests) in

@@ -17,7 +17,7 @@ use Rattle.definitions.specs.Rules.{is_line}
 use Rattle.definitions.specs.Premises.{on_line}
 use Rattle.definitions.specs.Ways.{PlainWay, first_len, steps_behind, way_between, rear_at}
 use Rattle.definitions.specs.Story.{Transition, Story, sent}
-use Rattle.definitions.specs.World.{Facts, clock, facts_of, is_declared, entered, last_number, journey}
+use Rattle.definitions.specs.World.{Facts, clock, facts_of, is_declared, entered, last_number, last_taken, accepts, limit_place, journey}
 use Rattle.definitions.specs.Control.{controls, knows, knows_most, now_with, last_issued}
 use Rattle.definitions.specs.Longest.{counted, longest_end, longest_route}
 use Rattle.definitions.specs.Fronts.{least_rear}
@@ -26,7 +26,7 @@ use Rattle.definitions.specs.Limit.{limit}
 use Rattle.definitions.specs.Steps.{entry_path, taking_auth, world_takes, zone_takes}
 use Rattle.definitions.specs.Zones.{zone_id}
 use Rattle.event_laws.proofs.Issued_all.{AllIn, issued_all}
-use Rattle.event_laws.proofs.Zone_issues.{entry_cases, ask_cases, time_cases, report_none}
+use Rattle.event_laws.proofs.Zone_issues.{entry_cases, ask_cases, time_cases, report_none, order_none}
 use Rattle.way_laws.proofs.Between_points.{behind_rear, between_rear, between_first}
 use Rattle.invariant_laws.proofs.Invariant.{AuthTrue, AuthIs, Invariant}
 use Rattle.invariant_laws.proofs.One_route.{numbered_controls, journey_few}
@@ -50,11 +50,16 @@ train_fits s b u h =
     let r = b.facts u.0 found.0 found.1 in
     ((r.some, r.id), refl)
 
-pub answer_fits : (s : Story) → Bounded s → (u : TrainId) (number : ℕ) → is_declared u.0 s ≡ true → 1 ≤ number → number ≤ last_issued u.0 s → Fits (msg.Answer u (clock s) number true)
-unfolding Fits answer time ordinal yes
-answer_fits s b u number declared some known =
+pub yes_fits : (b : Bool) → yes.fits b
+unfolding yes
+yes_fits true = ((omega arith, omega arith), refl)
+yes_fits false = ((omega arith, omega arith), refl)
+
+pub answer_fits : (s : Story) → Bounded s → (u : TrainId) (number : ℕ) (taken : Bool) → is_declared u.0 s ≡ true → 1 ≤ number → number ≤ last_issued u.0 s → Fits (msg.Answer u (clock s) number taken)
+unfolding Fits answer time ordinal
+answer_fits s b u number taken declared some known =
     let most = b.numbers u.0 in
-    (train_fits s b u declared, ((omega arith, b.time), ((some, omega (arith, known, most)), ((omega arith, omega arith), refl))))
+    (train_fits s b u declared, ((omega arith, b.time), ((some, omega (arith, known, most)), yes_fits taken)))
 
 -- the mark of a step of the journey fits
 pub mark_fits : (line : Line) (t : ℕ) (s : Story) → Bounded s → Invariant line t s → 1 ≤ last_issued t s → length (journey line t s) ≤ 240000000
@@ -79,24 +84,24 @@ auth_fits line s l b u number mark path k is from =
 -- By the world: an answer.
 
 module _ (line : Line) (s : Story) (b : Bounded s) (k : (t : ℕ) → Invariant line t s) where
-  replied_fits : (u : TrainId) (from number : ℕ) (on : Bool) (last : ℕ) → entered u.0 s ≡ on → last_number u.0 s ≡ last → 1 ≤ number → number ≤ last_issued u.0 s
-      → AllIn Fits (taking_auth (clock s) on last u from number).issued
+  replied_fits : (u : TrainId) (from number : ℕ) (on : Bool) (last : ℕ) (was_taken takes_it : Bool) → entered u.0 s ≡ on → last_number u.0 s ≡ last → 1 ≤ number → number ≤ last_issued u.0 s
+      → AllIn Fits (taking_auth (clock s) on last was_taken takes_it u from number).issued
   unfolding AllIn
-  replied_fits u from number false last is same some known = tt
-  replied_fits u from number true last is same some known =
+  replied_fits u from number false last was_taken takes_it is same some known = tt
+  replied_fits u from number true last was_taken takes_it is same some known =
       let declared = (k u.0).motion.declared is in
       let most = (k u.0).authorized.last_most in
       let first = numbered_on u.0 s is in
       by_test (nat_lt last number)
-      (λ y. rw y (answer_fits s b u number declared some known, tt))
-      (λ n. rw n (answer_fits s b u last declared (omega (arith, same, first)) (omega (arith, same, most)), tt))
+      (λ y. rw y (answer_fits s b u number takes_it declared some known, tt))
+      (λ n. rw n (answer_fits s b u last was_taken declared (omega (arith, same, first)) (omega (arith, same, most)), tt))
 
-  pub world_fits : (from j : ℕ) (m : Msg) → slice_get (sent from 0 s) j ≡ Some m → AllIn Fits (world_takes s from m).issued
+  pub world_fits : (from j : ℕ) (m : Msg) → slice_get (sent from 0 s) j ≡ Some m → AllIn Fits (world_takes line s from m).issued
   unfolding AllIn
   world_fits from j (msg.Auth u number mark path) is =
       let true_ : AuthTrue line u.0 s (msg.Auth u number mark path) = issued_all (AuthTrue line u.0 s) from 0 s j (msg.Auth u number mark path) (k u.0).authorized.auths is in
       let a = true_ (eq_self u.0) in
-      replied_fits u from number (entered u.0 s) (last_number u.0 s) refl refl a.positive a.known
+      replied_fits u from number (entered u.0 s) (last_number u.0 s) (last_taken line u.0 s) (accepts line u.0 s (limit_place line u.0 s) (record { mark = mark; path = path })) refl refl a.positive a.known
   world_fits from j _ is = tt
 
 -- By the zone: an authority.
@@ -109,7 +114,7 @@ between_low line steps rear end l own order room =
     let at = between_rear (seg_len line) steps rear end order room in
     let r = behind_rear (seg_len line) steps rear (omega (arith, order, room)) in
     let on = and_parts (on_line line (rear_at (seg_len line) steps rear).0) _ (sym (ap (list_all (on_line line)) r.1) ∙ all_behind (on_line line) (steps_behind (seg_len line) steps rear) steps own) in
-    let short = (segment_ranges line (rear_at (seg_len line) steps rear).0 l on.0).short in
+    let short = (segment_ranges line (rear_at (seg_len line) steps rear).0.seg.0 l on.0).short in
     let same = ap (first_len (seg_len line)) at.1 in
     omega (arith, first, short, same)
 
@@ -158,4 +163,5 @@ module _ (line : Line) (s : Story) (l : is_line line ≡ true) (b : Bounded s) (
       (λ v is c h. one_fits issued u (last_issued u.0 s) v.mark v.path a h (way_from line u.0 s v l (k u.0) c is))
   zone_fits from (msg.Report u time mark offset integrity) a =
       none_fits _ (report_none line (zone_id line) s u (msg.Report u time mark offset integrity))
+  zone_fits from (msg.Order time order) a = none_fits _ (order_none (zone_id line) order)
   zone_fits from _ a = none_fits _ refl

@@ -32,7 +32,8 @@ use Rattle.event_laws.proofs.Facts_stay.{error_stays, entered_stays}
 use Rattle.motion_laws.proofs.Motion.{place_at, Timed, place_stays, head_next}
 use Rattle.invariant_laws.proofs.Invariant.{step_begin, ReportIs, ReportTrue, Invariant}
 use Rattle.invariant_laws.proofs.One_route.{on_controls}
-use Rattle.front_laws.proofs.Head_place.{journey_some, head_on_track, head_place, place_on}
+use Rattle.invariant_laws.proofs.First_steps.{controlled_some, controlled_reaches}
+use Rattle.invariant_laws.proofs.Head_on.{place_on, head_place}
 
 pub reports_start : (line : Line) (t : ℕ) → AllIssued (ReportTrue line t []) []
 unfolding AllIssued
@@ -50,8 +51,8 @@ module _ (line : Line) (s : Story) (e : Event) (one : IsLineOfOneZone line) (adm
   marks_stay mark on h =
       let x = effects line s e in
       let c = on_controls line t s invariant.authorized on in
-      let some = journey_some line t s one.valid invariant c in
-      let room = head_on_track line t s one.valid invariant c in
+      let some = controlled_some line t s invariant.authorized c invariant.motion in
+      let room = controlled_reaches line t s invariant.authorized c invariant.motion in
       let le = head_grows on in
       let g = journey_goes_on line t x s some room le in
       let k = cut_few (seg_len line) (journey line t (x ∷ s)) (head t s) in
@@ -110,12 +111,12 @@ report_made line s u z step offset whole one a invariant =
     let c = on_controls line t s invariant.authorized on in
     let declared = invariant.motion.declared on in
     let mark = length (journey line t s) - 1 in
-    let some = journey_some line t s one.valid invariant c in
+    let some = controlled_some line t s invariant.authorized c invariant.motion in
     let m = marks_stay line s e one a t invariant mark on (omega (arith, some)) in
     let p : place_at t (clock s) (x ∷ s) ≡ head t s =
-    place_stays line t (clock s) s e a invariant.motion declared (omega arith) ∙ (invariant.motion.now_place ∙ place_on line t s one.valid invariant c on) in
+    place_stays line t (clock s) s e a invariant.motion declared (omega arith) ∙ (invariant.motion.now_place ∙ place_on line t s invariant.authorized invariant.motion c on) in
     let f = error_stays t x s declared in
-    let ends = off_ends (step_begin line t s mark) (head t s) (head_offset line t s) (error_of t s) offset off.1 (head_place line t s one.valid invariant c) in
+    let ends = off_ends (step_begin line t s mark) (head t s) (head_offset line t s) (error_of t s) offset off.1 (head_place line t s invariant.authorized invariant.motion c) in
     let least = ends.0 in
     let most = ends.1 in
     record {

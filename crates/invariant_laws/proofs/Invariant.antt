@@ -150,7 +150,7 @@ pub record EntryHeld (line : Line) (t : ℕ) (s : Story) (h : HeldPath) : Type 0
 -- the limit that a train holds is the end of the authority of its last number, and not behind its head
 pub record LimitIs (line : Line) (t : ℕ) (s : Story) : Type 0 where
   pub held : HeldPath
-  pub is : limit_held t s ≡ Some held
+  pub is : limit_held line t s ≡ Some held
   pub authority : AuthorityIs line t s held.authority
   pub number : limit_place line t s ≡ end_read line t s (last_number t s)
   pub ahead : head t s ≤ limit_place line t s

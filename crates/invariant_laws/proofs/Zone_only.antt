@@ -8,7 +8,7 @@ use Rattle.std.specs.Prelude.{nat_eq, count_by, cond}
 use Rattle.std.specs.List.{list_any}
 use Rattle.list_laws.proofs.By_test.{by_test}
 use Rattle.definitions.specs.declared.item.Item.{Item}
-use Rattle.definitions.specs.declared.item.Item.TheVariants.{Zone, Segment, Joint, Portal, Buffer, Silent}
+use Rattle.definitions.specs.declared.item.Item.TheVariants.{Zone, Segment, Joint, Portal, Buffer, Brake, Silent}
 use Rattle.definitions.specs.Track.{Line, is_zone, has_zone, has_segment, zone_of, is_actor}
 use Rattle.definitions.specs.Rules.{rule_of, is_any_zone, builds}
 use Rattle.definitions.specs.Safe.{IsLineOfOneZone}
@@ -34,6 +34,7 @@ some_zone (Segment s y len ∷ line) z h = let r = some_zone line z h in omega (
 some_zone (Joint a b ∷ line) z h = let r = some_zone line z h in omega (arith, other_counts (Joint a b) line refl, r)
 some_zone (Portal a ∷ line) z h = let r = some_zone line z h in omega (arith, other_counts (Portal a) line refl, r)
 some_zone (Buffer a ∷ line) z h = let r = some_zone line z h in omega (arith, other_counts (Buffer a) line refl, r)
+some_zone (Brake ticks runaway rate ∷ line) z h = let r = some_zone line z h in omega (arith, other_counts (Brake ticks runaway rate) line refl, r)
 some_zone (Silent ms ∷ line) z h = let r = some_zone line z h in omega (arith, other_counts (Silent ms) line refl, r)
 
 -- where at most one zone is declared, a declared one is it
@@ -47,6 +48,7 @@ zone_only (Segment s y len ∷ line) z one h = zone_only line z (omega (arith, o
 zone_only (Joint a b ∷ line) z one h = zone_only line z (omega (arith, other_counts (Joint a b) line refl, one)) h
 zone_only (Portal a ∷ line) z one h = zone_only line z (omega (arith, other_counts (Portal a) line refl, one)) h
 zone_only (Buffer a ∷ line) z one h = zone_only line z (omega (arith, other_counts (Buffer a) line refl, one)) h
+zone_only (Brake ticks runaway rate ∷ line) z one h = zone_only line z (omega (arith, other_counts (Brake ticks runaway rate) line refl, one)) h
 zone_only (Silent ms ∷ line) z one h = zone_only line z (omega (arith, other_counts (Silent ms) line refl, one)) h
 
 -- a declared segment's zone is declared
@@ -76,6 +78,9 @@ zone_declared (Portal y ∷ items) before s b h =
 zone_declared (Buffer y ∷ items) before s b h =
     let k = builds_step before (Buffer y) items b in
     zone_later before (Buffer y) items (zone_of items s) (zone_declared items (before ++ Buffer y ∷ []) s k.1 h)
+zone_declared (Brake ticks runaway rate ∷ items) before s b h =
+    let k = builds_step before (Brake ticks runaway rate) items b in
+    zone_later before (Brake ticks runaway rate) items (zone_of items s) (zone_declared items (before ++ Brake ticks runaway rate ∷ []) s k.1 h)
 zone_declared (Silent ms ∷ items) before s b h =
     let k = builds_step before (Silent ms) items b in
     zone_later before (Silent ms) items (zone_of items s) (zone_declared items (before ++ Silent ms ∷ []) s k.1 h)

@@ -1,5 +1,6 @@
 //! One file for each layer, and the line on which ways and the world are tried.
 
+mod brakes;
 mod fronts;
 mod line;
 mod room;

@@ -1,4 +1,4 @@
--- What items say of zones, segments and silence, as one more is added.
+-- What items say of zones, segments, the brake and silence, as one more is added.
 use Rattle.std.proofs.Common.{◌≡◌, ℕ, ◌+◌, Bool, true, false, ◌||◌, [], ◌∷◌, ◌++◌, if◌then◌else◌, refl, ◌∙◌, arith}
 use Rattle.std.specs.Prelude.{count_by}
 use Rattle.std.specs.List.{list_any}
@@ -6,8 +6,9 @@ use Rattle.std.proofs.lemmas.List.Folds.{list_any-append}
 use Rattle.std.proofs.lemmas.List.Sums.{sum_by-append}
 use Rattle.list_laws.proofs.By_test.{by_test}
 use Rattle.definitions.specs.declared.item.Item.{Item}
-use Rattle.definitions.specs.declared.item.Item.TheVariants.{Zone, Segment, Joint, Portal, Buffer, Silent}
-use Rattle.definitions.specs.Track.{Line, is_segment, has_segment, length_in, zone_in, seg_len, zone_of, is_any_silent, silent_in, silent_after}
+use Rattle.definitions.specs.declared.item.Item.TheVariants.{Zone, Segment, Joint, Portal, Buffer, Brake, Silent}
+use Rattle.definitions.specs.Track.{Line, is_segment, has_segment, length_in, zone_in, seg_len, zone_of, is_any_brake, brake_in, brake_of, is_any_silent, silent_in, silent_after}
+use Rattle.line_index.specs.Notes.{usual_brake}
 
 or_none : (a b : Bool) → (a || (b || false)) ≡ (a || b)
 or_none a b = grind arith
@@ -48,6 +49,18 @@ zone_none (x ∷ items) s h = by_test (is_segment s x)
     (λ y. absurd (let w : true ≡ false = rw y at h in cc))
     (λ n. rw n (zone_none items s (rw n at h)))
 
+pub brake_more : (items : Line) (i : Item)
+    → brake_of (items ++ i ∷ []) ≡ (if list_any is_any_brake items then brake_of items else brake_in i usual_brake)
+unfolding brake_of
+brake_more [] i = refl
+brake_more (Zone z ∷ items) i = brake_more items i
+brake_more (Segment s z len ∷ items) i = brake_more items i
+brake_more (Joint a b ∷ items) i = brake_more items i
+brake_more (Portal a ∷ items) i = brake_more items i
+brake_more (Buffer a ∷ items) i = brake_more items i
+brake_more (Brake ticks runaway rate ∷ items) i = refl
+brake_more (Silent ms ∷ items) i = brake_more items i
+
 pub silent_more : (items : Line) (i : Item)
     → silent_after (items ++ i ∷ []) ≡ (if list_any is_any_silent items then silent_after items else silent_in i 5000)
 unfolding silent_after
@@ -57,4 +70,5 @@ silent_more (Segment s z len ∷ items) i = silent_more items i
 silent_more (Joint a b ∷ items) i = silent_more items i
 silent_more (Portal a ∷ items) i = silent_more items i
 silent_more (Buffer a ∷ items) i = silent_more items i
+silent_more (Brake ticks runaway rate ∷ items) i = silent_more items i
 silent_more (Silent ms ∷ items) i = refl

@@ -4,22 +4,23 @@ use Rattle.std.specs.Prelude.{is_some, unwrap_or}
 use Rattle.std.proofs.lemmas.Bool.{or_parts}
 use Rattle.std.proofs.lemmas.Bool.Decides.{nat_tests}
 use Rattle.list_laws.proofs.By_test.{by_test}
+use Rattle.braking_table.specs.declared.table.Brake.{Brake}
 use Rattle.track_points.specs.declared.ids.Dir.{Dir}
 use Rattle.track_points.specs.declared.ids.Dir.TheVariants.{Up, Down}
 use Rattle.definitions.specs.declared.item.End.{End}
 use Rattle.definitions.specs.declared.item.Item.{Item}
-use Rattle.definitions.specs.declared.item.Item.TheVariants.{Zone, Segment, Joint, Portal, Buffer, Silent}
-use Rattle.definitions.specs.Track.{Line, end_eq, is_zone, is_segment, has_segment, seg_len, zone_of, is_any_silent, silent_in, silent_after}
+use Rattle.definitions.specs.declared.item.Item.TheVariants.{Zone, Segment, Joint, Portal, Buffer, Brake as Braking, Silent}
+use Rattle.definitions.specs.Track.{Line, end_eq, is_zone, is_segment, has_segment, seg_len, zone_of, is_any_brake, brake_in, brake_of, is_any_silent, silent_in, silent_after}
 use Rattle.definitions.specs.Rules.{rule_of, is_any_zone, is_any_segment}
 use Rattle.definitions.proofs.Unbroken.{unbroken}
 use Rattle.line_index.specs.declared.ends.EndUse.TheVariants.{Free}
 use Rattle.line_index.specs.declared.notes.Notes.{Notes}
 use Rattle.line_index.specs.Uses.{use_in, use_of}
 use Rattle.line_index.specs.Table.{IsFresh, look, end_of}
-use Rattle.line_index.specs.Notes.{Tells, Noted, CanNote, Same, end_at, entry_of, declared_entry, length_from, zone_from, use_from, seen, first_silence}
+use Rattle.line_index.specs.Notes.{Tells, Noted, CanNote, Same, end_at, entry_of, declared_entry, length_from, zone_from, use_from, seen, usual_brake, first_brake, first_silence}
 use Rattle.line_index.proofs.All_same.{all_same}
 use Rattle.line_index.proofs.Used_in.{use_more}
-use Rattle.line_index.proofs.Count_more.{any_more, count_more, length_more, zone_more, length_none, zone_none, silent_more}
+use Rattle.line_index.proofs.Count_more.{any_more, count_more, length_more, zone_more, length_none, zone_none, brake_more, silent_more}
 
 -- an item that declares a segment uses no end
 declares_free : (i : Item) (s : ℕ) (e : End) → is_segment s i ≡ true → use_in e i ≡ Free
@@ -28,6 +29,7 @@ declares_free (Segment r z len) s e h = refl
 declares_free (Joint a b) s e h = absurd (cc)
 declares_free (Portal a) s e h = absurd (cc)
 declares_free (Buffer a) s e h = absurd (cc)
+declares_free (Braking ticks runaway rate) s e h = refl
 declares_free (Silent ms) s e h = refl
 
 -- no end of a segment that is not declared is used
@@ -78,12 +80,34 @@ unused_in items (Portal a) e r h =
 unused_in items (Buffer a) e r h =
     let k = (unbroken items (Buffer a) r).known in
     let p = unknown_end items a e (grind arith) h in rw p refl
+unused_in items (Braking ticks runaway rate) e r h = refl
 unused_in items (Silent ms) e r h = refl
 
 loose_more : (items : Line) (i : Item) → IsLoose items → rule_of items i ≡ 0 → IsLoose (items ++ i ∷ [])
 loose_more items i loose r e h =
     let out = (or_parts (has_segment items e.segment) (is_segment e.segment i) (rw (any_more (is_segment e.segment) items i) at h)).0 in
     rw (use_more items i e, loose e out) (unused_in items i e r out)
+
+some_brake : (o : Option Brake) (i : Item) → is_some (first_brake o i) ≡ (is_some o || is_any_brake i)
+some_brake (Some b) i = refl
+some_brake None (Zone z) = refl
+some_brake None (Segment s z len) = refl
+some_brake None (Joint a b) = refl
+some_brake None (Portal a) = refl
+some_brake None (Buffer a) = refl
+some_brake None (Braking ticks runaway rate) = refl
+some_brake None (Silent ms) = refl
+
+which_brake : (o : Option Brake) (i : Item)
+    → unwrap_or (first_brake o i) usual_brake ≡ (if is_some o then unwrap_or o usual_brake else brake_in i usual_brake)
+which_brake (Some b) i = refl
+which_brake None (Zone z) = refl
+which_brake None (Segment s z len) = refl
+which_brake None (Joint a b) = refl
+which_brake None (Portal a) = refl
+which_brake None (Buffer a) = refl
+which_brake None (Braking ticks runaway rate) = refl
+which_brake None (Silent ms) = refl
 
 some_silence : (o : Option ℕ) (i : Item) → is_some (first_silence o i) ≡ (is_some o || is_any_silent i)
 some_silence (Some ms) i = refl
@@ -92,6 +116,7 @@ some_silence None (Segment s z len) = refl
 some_silence None (Joint a b) = refl
 some_silence None (Portal a) = refl
 some_silence None (Buffer a) = refl
+some_silence None (Braking ticks runaway rate) = refl
 some_silence None (Silent ms) = refl
 
 which_silence : (o : Option ℕ) (i : Item) → unwrap_or (first_silence o i) 5000 ≡ (if is_some o then unwrap_or o 5000 else silent_in i 5000)
@@ -101,12 +126,15 @@ which_silence None (Segment s z len) = refl
 which_silence None (Joint a b) = refl
 which_silence None (Portal a) = refl
 which_silence None (Buffer a) = refl
+which_silence None (Braking ticks runaway rate) = refl
 which_silence None (Silent ms) = refl
 
 pub tells_more : (n m : Notes) (items : Line) (i : Item) → Tells n items → rule_of items i ≡ 0 → Noted n i m → Tells m (items ++ i ∷ [])
 tells_more n m items i t r k = record {
   zones = λ z. rw (k.zones z, t.zones z) (sym (any_more (is_zone z) items i));
   zoned = rw (k.zoned, t.zoned) (sym (any_more is_any_zone items i));
+  braking = rw (k.brake, some_brake n.brake i, t.braking) (sym (any_more is_any_brake items i));
+  brake = rw (k.brake, which_brake n.brake i, t.braking, t.brake) (sym (brake_more items i));
   silent = rw (k.silence, some_silence n.silence i, t.silent) (sym (any_more is_any_silent items i));
   silence = rw (k.silence, which_silence n.silence i, t.silent, t.silence) (sym (silent_more items i));
   segments = λ s. rw (k.segments s, t.segments s) (sym (seen_more items i s t.loose));
@@ -127,14 +155,18 @@ can_note n items (Segment s z len) t r =
 can_note n items (Joint a b) t r = tt
 can_note n items (Portal a) t r = tt
 can_note n items (Buffer a) t r = tt
+can_note n items (Braking ticks runaway rate) t r =
+    let w = (unbroken items (Braking ticks runaway rate) r).within in (grind (arith, nat_tests), grind (arith, nat_tests), grind (arith, nat_tests))
 can_note n items (Silent ms) t r = tt
 
 pub tells_none : (n : Notes) → n.zones ≡ false ∷ false ∷ false ∷ false ∷ false ∷ false ∷ false ∷ false ∷ false ∷ false ∷ false ∷ false ∷ false ∷ false ∷ false ∷ false ∷ false ∷ []
-    → n.zoned ≡ false → n.silence ≡ None → IsFresh n.table → Tells n []
-unfolding use_of silent_after
-tells_none n zones zoned silence f = record {
+    → n.zoned ≡ false → n.brake ≡ None → n.silence ≡ None → IsFresh n.table → Tells n []
+unfolding use_of brake_of silent_after
+tells_none n zones zoned brake silence f = record {
   zones = λ z. ap (λ (xs : List Bool). get_or xs z false) zones ∙ all_same false 17 z;
   zoned = zoned;
+  braking = rw brake refl;
+  brake = rw brake refl;
   silent = rw silence refl;
   silence = rw silence refl;
   segments = f.none;
@@ -147,6 +179,8 @@ pub tells_same : (n m : Notes) (items : Line) → Tells n items → Same n m →
 tells_same n m items t k = record {
   zones = λ z. rw k.zones (t.zones z);
   zoned = k.zoned ∙ t.zoned;
+  braking = rw k.brake t.braking;
+  brake = rw k.brake t.brake;
   silent = rw k.silence t.silent;
   silence = rw k.silence t.silence;
   segments = λ s. rw (k.slots, k.entries) (t.segments s);

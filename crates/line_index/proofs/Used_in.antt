@@ -5,7 +5,7 @@ use Rattle.std.specs.List.{list_any}
 use Rattle.list_laws.proofs.By_test.{by_test}
 use Rattle.definitions.specs.declared.item.End.{End}
 use Rattle.definitions.specs.declared.item.Item.{Item}
-use Rattle.definitions.specs.declared.item.Item.TheVariants.{Zone, Segment, Joint, Silent}
+use Rattle.definitions.specs.declared.item.Item.TheVariants.{Zone, Segment, Joint, Brake, Silent}
 use Rattle.definitions.specs.declared.item.Item.TheVariants as item
 use Rattle.definitions.specs.Track.{Line, end_eq, uses}
 use Rattle.line_index.specs.declared.ends.EndUse.{EndUse}
@@ -39,6 +39,7 @@ free_in e (Joint a b) h = by_test (end_eq a e)
     (λ n. let w = rw n at h in rw (n, w) refl)
 free_in e (item.Portal a) h = rw h refl
 free_in e (item.Buffer a) h = rw h refl
+free_in e (Brake ticks runaway rate) h = refl
 free_in e (Silent ms) h = refl
 
 pub used_in : (e : End) (i : Item) → uses e i ≡ not (is_free (use_in e i))
@@ -47,6 +48,7 @@ used_in e (Segment s z len) = refl
 used_in e (Joint a b) = by_test (end_eq a e) (λ y. rw y refl) (λ n. by_test (end_eq b e) (λ y. rw (n, y) refl) (λ m. rw (n, m) refl))
 used_in e (item.Portal a) = by_test (end_eq a e) (λ y. rw y refl) (λ n. rw n refl)
 used_in e (item.Buffer a) = by_test (end_eq a e) (λ y. rw y refl) (λ n. rw n refl)
+used_in e (Brake ticks runaway rate) = refl
 used_in e (Silent ms) = refl
 
 used_either : (u v : EndUse) → not (is_free (first_use u v)) ≡ (not (is_free u) || not (is_free v))

@@ -2,7 +2,7 @@
 use Rattle.std.specs.Prelude.{Bool, true, false, [], ◌∷◌, if◌then◌else◌}
 use Rattle.definitions.specs.declared.item.End.{End}
 use Rattle.definitions.specs.declared.item.Item.{Item}
-use Rattle.definitions.specs.declared.item.Item.TheVariants.{Zone, Segment, Joint, Silent}
+use Rattle.definitions.specs.declared.item.Item.TheVariants.{Zone, Segment, Joint, Brake, Silent}
 use Rattle.definitions.specs.declared.item.Item.TheVariants as item
 use Rattle.definitions.specs.Track.{Line, end_eq}
 use Rattle.line_index.specs.declared.ends.EndUse.{EndUse}
@@ -28,6 +28,7 @@ use_in e (Segment s z len) = Free
 use_in e (Joint a b) = if end_eq a e then Joined b else if end_eq b e then Joined a else Free
 use_in e (item.Portal a) = if end_eq a e then Portal else Free
 use_in e (item.Buffer a) = if end_eq a e then Buffer else Free
+use_in e (Brake ticks runaway rate) = Free
 use_in e (Silent ms) = Free
 
 -- how the first item that uses an end does; free where none does

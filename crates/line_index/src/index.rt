@@ -1,12 +1,13 @@
 //! The items of a line with an index of them.
 ghost use Rattle.std.specs.Prelude.{◌≡◌, [], ◌∷◌, ◌++◌, count_by, IfOk, OnErr, OnOk};
 ghost use Rattle.std.specs.List.{list_any};
-ghost use Rattle.definitions.specs.Track.{has_segment, has_zone, is_any_silent, seg_len, silent_after, uses, zone_of};
+ghost use Rattle.definitions.specs.Track.{has_segment, brake_of, has_zone, is_any_brake, is_any_silent, seg_len, silent_after, uses, zone_of};
 ghost use Rattle.definitions.specs.Rules.{is_any_segment, is_any_zone, rule_of};
 ghost use Rattle.line_index.specs.Uses.{use_of};
 
 use crate::ends::{EndUse, is_free};
 use crate::notes::Notes;
+use braking_table::Brake;
 use definitions::item::{End, Item};
 use std::alloc::{AllocError, Global};
 use std::marker::Model;
@@ -86,6 +87,20 @@ impl LineIndex {
         ensures { result ≡ list_any is_any_zone self.now }
     {
         self.notes.has_a_zone()
+    }
+
+    /// Whether an item says how trains brake.
+    pub fn has_brake(&self) -> bool
+        ensures { result ≡ list_any is_any_brake self.now }
+    {
+        self.notes.has_brake()
+    }
+
+    /// How trains brake.
+    pub fn brake(&self) -> Brake
+        ensures { result ≡ brake_of self.now }
+    {
+        self.notes.brake()
     }
 
     /// Whether an item says after how many ms a train is silent.

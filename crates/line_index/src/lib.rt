@@ -1,7 +1,8 @@
 //! The items of a line with an index of them, which answers in a time that does not grow with their number.
 //!
-//! A `LineIndex` is seen as the list of its items. It keeps which zones are declared, and for each declared segment one
-//! entry with its zone, its length and what uses its two ends, found by the segment's id in one look.
+//! A `LineIndex` is seen as the list of its items. It keeps which zones are declared, how trains brake and when one is
+//! silent, and for each declared segment one entry with its zone, its length and what uses its two ends, found by the
+//! segment's id in one look.
 #![tactic(auto)]
 
 mod ends;

@@ -1,19 +1,28 @@
 //! What an index notes of the items, one item at a time.
 ghost use Rattle.std.specs.Prelude.{◌≡◌, ◌<◌, [], length, is_some, unwrap_or, IfOk};
 ghost use Rattle.line_index.specs.Table.{IsTable, look};
-ghost use Rattle.line_index.specs.Notes.{CanNote, Noted, Same, Tells, is_noted, length_from, zone_from, use_from};
+ghost use Rattle.line_index.specs.Notes.{CanNote, Noted, Same, Tells, is_noted, length_from, usual_brake, zone_from, use_from};
 
 use crate::ends::EndUse;
 use crate::table::{Entry, Table, end_of};
+use braking_table::Brake;
 use definitions::item::{End, Item};
 use std::alloc::{AllocError, Global};
 
-/// Which zones are declared, whether any is, after how many ms a train is silent where an item says so, and the
-/// declared segments.
+/// How trains brake where no item says.
+const USUAL: Brake = Brake {
+    ticks: 50,
+    runaway: 0,
+    rate: 1_000,
+};
+
+/// Which zones are declared, whether any is, how trains brake and after how many ms one is silent where an item says so,
+/// and the declared segments.
 #[derive(Drop)]
 pub struct Notes {
     zones: [bool; 17],
     zoned: bool,
+    brake: Option<Brake>,
     silence: Option<u64>,
     table: Table,
 }
@@ -27,6 +36,7 @@ impl Notes {
         Ok(Notes {
             zones: [false; 17],
             zoned: false,
+            brake: None,
             silence: None,
             table,
         })
@@ -41,6 +51,7 @@ impl Notes {
         Ok(Notes {
             zones: self.zones,
             zoned: self.zoned,
+            brake: self.brake,
             silence: self.silence,
             table,
         })
@@ -58,6 +69,20 @@ impl Notes {
         ensures { result ≡ self.now.zoned }
     {
         self.zoned
+    }
+
+    /// Whether an item says how trains brake.
+    pub fn has_brake(&self) -> bool
+        ensures { result ≡ is_some self.now.brake }
+    {
+        self.brake.is_some()
+    }
+
+    /// How trains brake.
+    pub fn brake(&self) -> Brake
+        ensures { result ≡ unwrap_or self.now.brake usual_brake }
+    {
+        self.brake.unwrap_or(USUAL)
     }
 
     /// Whether an item says after how many ms a train is silent.
@@ -163,6 +188,20 @@ impl Notes {
         self.table.use_end(e, EndUse::Buffer);
     }
 
+    fn note_brake(&mut self, ticks: u64, runaway: u64, rate: u64)
+        requires table { IsTable self.old.table }
+        requires can { CanNote (Item.Brake ticks runaway rate) self.old }
+        ensures { Noted self.old (Item.Brake ticks runaway rate) self.new }
+    {
+        if self.brake.is_none() {
+            self.brake = Some(Brake {
+                ticks: ticks as u16,
+                runaway: runaway as u32,
+                rate: rate as u32,
+            });
+        }
+    }
+
     fn note_silence(&mut self, ms: u64)
         requires { IsTable self.old.table }
         ensures { Noted self.old (Item.Silent ms) self.new }
@@ -184,6 +223,7 @@ impl Notes {
             Item::Joint(a, b) => self.note_joint(a, b),
             Item::Portal(e) => self.note_portal(e),
             Item::Buffer(e) => self.note_buffer(e),
+            Item::Brake(ticks, runaway, rate) => self.note_brake(ticks, runaway, rate),
             Item::Silent(ms) => self.note_silence(ms),
         }
     }

@@ -8,7 +8,7 @@ use Rattle.list_laws.proofs.By_test.{by_test}
 use Rattle.track_points.specs.declared.ids.DirSeg.{DirSeg}
 use Rattle.definitions.specs.declared.item.End.{End}
 use Rattle.definitions.specs.declared.item.Item.{Item}
-use Rattle.definitions.specs.declared.item.Item.TheVariants.{Zone, Segment, Joint, Portal, Buffer, Silent}
+use Rattle.definitions.specs.declared.item.Item.TheVariants.{Zone, Segment, Joint, Portal, Buffer, Brake, Silent}
 use Rattle.definitions.specs.Track.{Line, end_eq, uses, joins, is_portal, exit_of, entrance_of, zone_of, follows, begins_at_portal}
 use Rattle.definitions.specs.Rules.{rule_of, builds, is_line, joins_within}
 use Rattle.line_index.specs.declared.ends.EndUse.{EndUse}
@@ -70,6 +70,7 @@ joins_is a b (Joint x y) = by_test (end_eq x a)
     (λ m. rw (n, m) (and-false (end_eq x b))))
 joins_is a b (Portal x) = by_test (end_eq x a) (λ p. rw p refl) (λ n. rw n refl)
 joins_is a b (Buffer x) = by_test (end_eq x a) (λ p. rw p refl) (λ n. rw n refl)
+joins_is a b (Brake ticks runaway rate) = refl
 joins_is a b (Silent ms) = refl
 
 portal_is : (e : End) (i : Item) → is_portal e i ≡ is_portal_use (use_in e i)
@@ -78,6 +79,7 @@ portal_is e (Segment s z len) = refl
 portal_is e (Joint a b) = by_test (end_eq a e) (λ p. rw p refl) (λ n. by_test (end_eq b e) (λ q. rw (n, q) refl) (λ m. rw (n, m) refl))
 portal_is e (Portal a) = by_test (end_eq a e) (λ p. rw p refl) (λ n. rw n refl)
 portal_is e (Buffer a) = by_test (end_eq a e) (λ p. rw p refl) (λ n. rw n refl)
+portal_is e (Brake ticks runaway rate) = refl
 portal_is e (Silent ms) = refl
 
 within_same : (items : Line) (z : ℕ) (a b e : End) → end_eq a e ≡ true
@@ -96,6 +98,7 @@ within_is items z e (Joint a b) = by_test (end_eq a e)
     (λ n. by_test (end_eq b e) (λ q. rw (n, q) refl) (λ m. rw (n, m) refl))
 within_is items z e (Portal a) = by_test (end_eq a e) (λ p. rw p refl) (λ n. rw n refl)
 within_is items z e (Buffer a) = by_test (end_eq a e) (λ p. rw p refl) (λ n. rw n refl)
+within_is items z e (Brake ticks runaway rate) = refl
 within_is items z e (Silent ms) = refl
 
 pub goes_on : (items : Line) (z : ℕ) (e : End) → builds [] items ≡ true
@@ -119,6 +122,7 @@ after_in e (Segment s z len) h = absurd h
 after_in e (Joint a b) h = by_test (end_eq a e) (λ p. rw p refl) (λ n. rw (n, rw n at h) refl)
 after_in e (Portal a) h = rw h refl
 after_in e (Buffer a) h = rw h refl
+after_in e (Brake ticks runaway rate) h = absurd h
 after_in e (Silent ms) h = absurd h
 
 pub after_is : (items : Line) (e : End) → after_end items e ≡ after_use (use_of items e)
@@ -141,6 +145,7 @@ in_fits e (Segment s z len) f = tt
 in_fits e (Joint a b) f = by_test (end_eq a e) (λ p. rw p f.1) (λ n. by_test (end_eq b e) (λ q. rw (n, q) f.0) (λ m. rw (n, m) tt))
 in_fits e (Portal a) f = by_test (end_eq a e) (λ p. rw p tt) (λ n. rw n tt)
 in_fits e (Buffer a) f = by_test (end_eq a e) (λ p. rw p tt) (λ n. rw n tt)
+in_fits e (Brake ticks runaway rate) f = tt
 in_fits e (Silent ms) f = tt
 
 uses_fit : (line : Line) → is_line line ≡ true → (items : Line) → list_all (fine line) items ≡ true → (e : End) → FitsUse (use_of items e)

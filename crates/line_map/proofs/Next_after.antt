@@ -11,7 +11,7 @@ use Rattle.track_points.specs.declared.ids.DirSeg.{DirSeg}
 use Rattle.track_points.specs.Points.{dir_eq}
 use Rattle.definitions.specs.declared.item.End.{End}
 use Rattle.definitions.specs.declared.item.Item.{Item}
-use Rattle.definitions.specs.declared.item.Item.TheVariants.{Zone, Segment, Joint, Portal, Buffer, Silent}
+use Rattle.definitions.specs.declared.item.Item.TheVariants.{Zone, Segment, Joint, Portal, Buffer, Brake, Silent}
 use Rattle.definitions.specs.Track.{Line, end_eq, uses, exit_of, behind_joint, first_of, next_step}
 use Rattle.definitions.specs.Rules.{rule_of, builds, is_line}
 use Rattle.definitions.proofs.Unbroken.{unbroken}
@@ -47,6 +47,7 @@ used_once before (Joint a b) e r used =
     or_from (end_eq a e) (end_eq b e) (free_end before a e used (joint_free before a b r).0) (free_end before b e used (joint_free before a b r).1)
 used_once before (Portal a) e r used = free_end before a e used (unbroken before (Portal a) r).free
 used_once before (Buffer a) e r used = free_end before a e used (unbroken before (Buffer a) r).free
+used_once before (Brake ticks runaway rate) e r used = refl
 used_once before (Silent ms) e r used = refl
 
 -- an item that does not use an end joins it with none
@@ -60,6 +61,7 @@ no_joint (Joint a b) e h = by_test (end_eq a e)
     (λ m. rw (n, m) refl))
 no_joint (Portal a) e h = refl
 no_joint (Buffer a) e h = refl
+no_joint (Brake ticks runaway rate) e h = refl
 no_joint (Silent ms) e h = refl
 
 pub still_used : (before : List Item) (i : Item) (e : End) → (list_any (uses e) before || uses e i) ≡ true → list_any (uses e) (before ++ i ∷ []) ≡ true
@@ -87,6 +89,7 @@ leads_on (Joint a b) e h = by_test (end_eq a e)
     (λ n. rw (n, rw n at h) refl)
 leads_on (Portal a) e h = tt
 leads_on (Buffer a) e h = tt
+leads_on (Brake ticks runaway rate) e h = absurd h
 leads_on (Silent ms) e h = absurd h
 
 or_none : (x : Option DirSeg) → first_of x None ≡ x

@@ -1,18 +1,21 @@
--- What the rules give of every item of a line, and so of every segment and zone.
+-- What the rules give of every item of a line, and so of every segment, every zone and the brake.
 use Rattle.std.proofs.Common.{◌≡◌, ℕ, ◌≤◌, Bool, true, false, ◌&&◌, List, [], ◌∷◌, ◌++◌, append_assoc, refl, ◌∙◌, arith, nat_eq}
-use Rattle.std.specs.Prelude.{Result, Ok, Err, OnOk, OnErr}
+use Rattle.std.specs.Prelude.{not, Option, Some, None, is_some, Result, Ok, Err, OnOk, OnErr}
 use Rattle.std.specs.List.{list_all, list_any}
 use Rattle.std.proofs.lemmas.Bool.{both_ways, or_left, and_from}
 use Rattle.std.proofs.lemmas.Bool.Decides.{nat_tests}
 use Rattle.std.proofs.lemmas.List.{append-nil}
 use Rattle.std.proofs.lemmas.List.Folds.{list_any-append, list_all-append}
 use Rattle.list_laws.proofs.By_test.{by_test}
+use Rattle.braking_table.specs.Brake.{stop_of}
+use Rattle.braking_table.specs.Made.{fault_of}
+use Rattle.braking_table.proofs.Stop_rises.{by_arithmetic}
 use Rattle.definitions.specs.declared.item.Item.{Item}
-use Rattle.definitions.specs.declared.item.Item.TheVariants.{Zone, Segment, Joint, Portal, Buffer, Silent}
+use Rattle.definitions.specs.declared.item.Item.TheVariants.{Zone, Segment, Joint, Portal, Buffer, Brake, Silent}
 use Rattle.track_points.specs.declared.ids.DirSeg.{DirSeg}
 use Rattle.definitions.specs.declared.item.End.{End}
-use Rattle.definitions.specs.Track.{Line, ranged, end_eq, is_portal, entrance_of, begins_at_portal, is_zone, is_segment, has_zone, has_segment, length_in, zone_in, seg_len, zone_of}
-use Rattle.definitions.specs.Rules.{rule_of, builds, is_line}
+use Rattle.definitions.specs.Track.{Line, ranged, end_eq, is_portal, entrance_of, begins_at_portal, is_zone, is_segment, has_zone, has_segment, length_in, zone_in, seg_len, zone_of, brake_of}
+use Rattle.definitions.specs.Rules.{rule_of, has_no_stops, builds, is_line}
 use Rattle.definitions.proofs.Unbroken.{unbroken}
 use Rattle.line_map.specs.Next.{FitsIds}
 
@@ -47,6 +50,7 @@ fine line (Segment s z len) = (ranged 1 32767 s && ranged 1 10000000 len) && has
 fine line (Joint a b) = has_segment line a.segment && has_segment line b.segment
 fine line (Portal a) = has_segment line a.segment
 fine line (Buffer a) = has_segment line a.segment
+fine line (Brake ticks runaway rate) = not (has_no_stops line (Brake ticks runaway rate))
 fine line (Silent ms) = ranged 1 3600000 ms
 
 rule_fine : (line : Line) (i : Item) → rule_of line i ≡ 0 → fine line i ≡ true
@@ -55,6 +59,7 @@ rule_fine line (Segment s z len) r = let u = unbroken line (Segment s z len) r i
 rule_fine line (Joint a b) r = let k = (unbroken line (Joint a b) r).known in grind arith
 rule_fine line (Portal a) r = let k = (unbroken line (Portal a) r).known in grind arith
 rule_fine line (Buffer a) r = let k = (unbroken line (Buffer a) r).known in grind arith
+rule_fine line (Brake ticks runaway rate) r = let w = (unbroken line (Brake ticks runaway rate) r).stops in rw w refl
 rule_fine line (Silent ms) r = let w = (unbroken line (Silent ms) r).within in grind arith
 
 zone_grown : (line : Line) (x : Item) (z : ℕ) → has_zone line z ≡ true → has_zone (line ++ x ∷ []) z ≡ true
@@ -70,6 +75,7 @@ grown line x (Joint a b) h =
     and_from _ _ (segment_grown line x a.segment (and_left _ _ h)) (segment_grown line x b.segment (and_right _ _ h))
 grown line x (Portal a) h = segment_grown line x a.segment h
 grown line x (Buffer a) h = segment_grown line x a.segment h
+grown line x (Brake ticks runaway rate) h = h
 grown line x (Silent ms) h = h
 
 all_grown : (line : Line) (x : Item) (items : List Item) → list_all (fine line) items ≡ true → list_all (fine (line ++ x ∷ [])) items ≡ true
@@ -129,6 +135,7 @@ segment_here line s (Segment r z len) f h =
 segment_here line s (Joint a b) f h = absurd h
 segment_here line s (Portal a) f h = absurd h
 segment_here line s (Buffer a) f h = absurd h
+segment_here line s (Brake ticks runaway rate) f h = absurd h
 segment_here line s (Silent ms) f h = absurd h
 segment_here line s (Zone z) f h = absurd h
 
@@ -155,6 +162,7 @@ zone_here line z (Zone y) f h = let e : y ≡ z = grind (arith, nat_tests) in rw
 zone_here line z (Joint a b) f h = absurd h
 zone_here line z (Portal a) f h = absurd h
 zone_here line z (Buffer a) f h = absurd h
+zone_here line z (Brake ticks runaway rate) f h = absurd h
 zone_here line z (Silent ms) f h = absurd h
 zone_here line z (Segment s y len) f h = absurd h
 
@@ -169,6 +177,25 @@ zone_ok line v z d =
     let r = zone_fine line line (all_fine line v) z d in
     (range_first 1 16 z r, range_last 1 16 z r)
 
+no_fault : {F : Type 0} (fault : Option F) → not (is_some fault) ≡ true → fault ≡ None
+no_fault None h = refl
+no_fault (Some f) h = absurd h
+
+-- the brake of a line has a table of stops
+brake_fine : (line items : List Item) → list_all (fine line) items ≡ true → fault_of (brake_of items) ≡ None
+unfolding brake_of stop_of
+brake_fine line [] h = rw (by_arithmetic (brake_of []) 60000 (omega arith)) refl
+brake_fine line (Zone z ∷ items) h = brake_fine line items (and_right _ _ h)
+brake_fine line (Segment s z len ∷ items) h = brake_fine line items (and_right _ _ h)
+brake_fine line (Joint a b ∷ items) h = brake_fine line items (and_right _ _ h)
+brake_fine line (Portal a ∷ items) h = brake_fine line items (and_right _ _ h)
+brake_fine line (Buffer a ∷ items) h = brake_fine line items (and_right _ _ h)
+brake_fine line (Silent ms ∷ items) h = brake_fine line items (and_right _ _ h)
+brake_fine line (Brake ticks runaway rate ∷ items) h = no_fault (fault_of (record { ticks = ticks; runaway = runaway; rate = rate })) (and_left _ _ h)
+
+pub brake_sound : (line : Line) → is_line line ≡ true → fault_of (brake_of line) ≡ None
+brake_sound line v = brake_fine line line (all_fine line v)
+
 -- the joints of a line name ids
 pub ids_fit : (line : Line) → is_line line ≡ true → (i : Item) → fine line i ≡ true → FitsIds i
 ids_fit line v (Zone z) f = tt
@@ -179,6 +206,7 @@ ids_fit line v (Joint a b) f = (
 )
 ids_fit line v (Portal a) f = tt
 ids_fit line v (Buffer a) f = tt
+ids_fit line v (Brake ticks runaway rate) f = tt
 ids_fit line v (Silent ms) f = tt
 
 -- the segment of a portal is declared
@@ -188,6 +216,7 @@ portal_in line (Zone z ∷ items) e h p = portal_in line items e (and_right _ _ 
 portal_in line (Segment s z len ∷ items) e h p = portal_in line items e (and_right _ _ h) p
 portal_in line (Joint a b ∷ items) e h p = portal_in line items e (and_right _ _ h) p
 portal_in line (Buffer a ∷ items) e h p = portal_in line items e (and_right _ _ h) p
+portal_in line (Brake ticks runaway rate ∷ items) e h p = portal_in line items e (and_right _ _ h) p
 portal_in line (Silent ms ∷ items) e h p = portal_in line items e (and_right _ _ h) p
 portal_in line (Portal a ∷ items) e h p =
     by_test (end_eq a e)

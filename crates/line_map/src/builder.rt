@@ -20,9 +20,9 @@ pub enum LineFault {
     Memory,
     /// The rule of this number is broken, the least of those that are. Of an item: nothing is declared twice (2), what
     /// is named is declared (3), numbers are in their ranges (4), there are at most 512 segments (5), an end is used
-    /// at most once (6), and the ends of a joint belong to different segments (8). Of the finished line: there is a
-    /// zone (1), every end is used (7), and the other end of a portal's segment is in a joint with a segment of the
-    /// same zone (12).
+    /// at most once (6), the ends of a joint belong to different segments (8), and the numbers of a brake make a table
+    /// of stops (18). Of the finished line: there is a zone (1), every end is used (7), and the other end of a portal's
+    /// segment is in a joint with a segment of the same zone (12).
     #[error("a rule of the line is broken")]
     Rule(u8),
 }

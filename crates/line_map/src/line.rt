@@ -1,11 +1,13 @@
 //! A valid line, and what can be asked of it.
-ghost use Rattle.std.specs.Prelude.{◌≡◌, ◌≤◌, [], true, vec_capacity, IfOk};
-ghost use Rattle.definitions.specs.Track.{end_eq, has_zone, has_segment, seg_len, zone_of, follows, begins_at_portal, exit_of, entrance_of, next_step, silent_after};
+ghost use Rattle.std.specs.Prelude.{◌≡◌, ◌≤◌, [], true, None, vec_capacity, IfOk};
+ghost use Rattle.braking_table.specs.Made.{fault_of};
+ghost use Rattle.definitions.specs.Track.{end_eq, has_zone, has_segment, seg_len, zone_of, follows, begins_at_portal, exit_of, entrance_of, next_step, brake_of, silent_after};
 ghost use Rattle.definitions.specs.Rules.{is_line};
 ghost use Rattle.line_map.specs.Order.{IsSegmentAt, IsZoneAt};
 ghost use Rattle.line_map.specs.Next.{after_of, after_use, is_portal_use, joins_where, step_in, AfterIs, FitsUse};
 
 use crate::order::{ascending, zone_number};
+use braking_table::Brake;
 use definitions::item::End;
 use line_index::{EndUse, LineIndex, same_end, turned};
 use std::alloc::{AllocError, Global};
@@ -174,6 +176,14 @@ impl Line {
         ensures declared { result ≡ true → has_segment self.now step.seg.0 ≡ true }
     {
         is_portal_use(self.index.use_of(entrance_end(step)))
+    }
+
+    /// How trains brake. There is a table of their stops.
+    pub fn brake(&self) -> Brake
+        ensures exact { result ≡ brake_of self.now }
+        ensures sound { fault_of result ≡ None }
+    {
+        self.index.brake()
     }
 
     /// How many ms without a used report make a train silent.

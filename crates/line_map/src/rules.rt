@@ -1,10 +1,12 @@
 //! The rules of a line, by number.
-ghost use Rattle.std.specs.Prelude.{◌≡◌, [], true, nat_eq};
+ghost use Rattle.std.specs.Prelude.{◌≡◌, [], true, is_some, nat_eq, not};
 ghost use Rattle.std.specs.List.{list_any};
+ghost use Rattle.braking_table.specs.Made.{fault_of};
 ghost use Rattle.definitions.specs.Track.{ranged, flip, zone_of};
 ghost use Rattle.line_map.specs.Next.{joins_where};
 ghost use Rattle.definitions.specs.Rules.{builds, rule_of, is_open, joins_within, is_bare, has_open, has_bare, finish_rule};
 
+use braking_table::{Brake, Table};
 use definitions::item::{End, Item};
 use line_index::{EndUse, LineIndex, opposite, same_end};
 use track_points::Dir;
@@ -74,6 +76,32 @@ fn joint_breaks(index: &LineIndex, a: End, b: End) -> u8
     }
 }
 
+/// Whether there is a table of the stops by a brake.
+fn has_stops(brake: Brake) -> bool
+    ensures { result ≡ not (is_some (fault_of brake)) }
+{
+    Table::new(brake).is_ok()
+}
+
+#[tactic(auto, unfolding(definitions::specs::Rules::rule_of, definitions::specs::Numbers::least))]
+fn brake_breaks(index: &LineIndex, ticks: u64, runaway: u64, rate: u64) -> u8
+    ensures { result ≡ rule_of index.now (Item.Brake ticks runaway rate) }
+{
+    if index.has_brake() {
+        2
+    } else if !(ticks <= 1_000 && (runaway <= 100_000 && rate <= 100_000)) {
+        4
+    } else if has_stops(Brake {
+        ticks: ticks as u16,
+        runaway: runaway as u32,
+        rate: rate as u32,
+    }) {
+        0
+    } else {
+        18
+    }
+}
+
 #[tactic(auto, unfolding(definitions::specs::Rules::rule_of, definitions::specs::Numbers::least))]
 fn silent_breaks(index: &LineIndex, ms: u64) -> u8
     ensures { result ≡ rule_of index.now (Item.Silent ms) }
@@ -97,6 +125,7 @@ pub fn breaks(index: &LineIndex, item: &Item) -> u8
         Item::Joint(a, b) => joint_breaks(index, a, b),
         Item::Portal(a) => end_breaks(index, a),
         Item::Buffer(a) => end_breaks(index, a),
+        Item::Brake(ticks, runaway, rate) => brake_breaks(index, ticks, runaway, rate),
         Item::Silent(ms) => silent_breaks(index, ms),
     }
 }

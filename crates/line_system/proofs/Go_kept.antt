@@ -30,7 +30,7 @@ use Rattle.line_system.proofs.Read_there.{all_fit}
 use Rattle.line_system.proofs.Zone_elsewhere.{world_elsewhere, zone_elsewhere, other_elsewhere, none_due}
 use Rattle.line_system.proofs.Count_next.{both_next, count_next}
 use Rattle.event_laws.proofs.Messages_most.{messages_most}
-use Rattle.document_laws.proofs.Slow_clock.{slow_clock}
+use Rattle.event_laws.proofs.Clock_most.{clock_most}
 use Rattle.line_system.proofs.In_range.{in_range}
 use Rattle.line_system.proofs.Parts_refined.{own_id, from_world, from_zone, parts_refined}
 use Rattle.line_system.proofs.Taken_next.{actor_is, taken_next}
@@ -196,7 +196,7 @@ module _ (h : History) (line : Line) (xs : List Event) (p : Parts) (u : Tally) (
 
   pub go_clock : p.world.clock ≤ 60000 * length xs
   go_clock =
-      let c = slow_clock line (reverse xs) g.keeps.kept in
+      let c = clock_most line (reverse xs) g.keeps.kept in
       let t = g.keeps.refines.time in
       let n = length-reverse xs in
       omega arith

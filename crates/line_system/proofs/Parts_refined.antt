@@ -66,6 +66,7 @@ pub same_refined : (line : Line) (s : Story) (k : Parts) (q : Plain) → IsLineO
 same_refined line s k q one world zone to_zone to_world refines =
     let here = subst (λ (z : PlainZone). ZoneRefines line (zone_id line) s z) zone (the_zone line s q one refines) in
     record {
+      brake = ap (λ (w : PlainWorld). w.brake) (sym world) ∙ refines.brake;
       time = ap (λ (w : PlainWorld). w.clock) (sym world) ∙ refines.time;
       trains = λ t. ap (λ (w : PlainWorld). find_train t w.trains) (sym world) ∙ refines.trains t;
       count = ap (λ (w : PlainWorld). length w.trains) (sym world) ∙ refines.count;

@@ -4,7 +4,7 @@ use Rattle.std.specs.List.{list_any}
 use Rattle.std.proofs.lemmas.Bool.Decides.{nat_tests}
 use Rattle.list_laws.proofs.By_test.{by_test}
 use Rattle.track_points.specs.declared.ids.ZoneId.{ZoneId}
-use Rattle.definitions.specs.declared.item.Item.TheVariants.{Zone, Segment, Joint, Portal, Buffer, Silent}
+use Rattle.definitions.specs.declared.item.Item.TheVariants.{Zone, Segment, Joint, Portal, Buffer, Brake, Silent}
 use Rattle.definitions.specs.Track.{Line, has_zone}
 use Rattle.definitions.specs.Numbers.{least}
 use Rattle.definitions.specs.Rules.{is_any_zone, is_line, builds, finish_rule}
@@ -35,6 +35,7 @@ has_first (Segment s z len ∷ line) h = has_first line h
 has_first (Joint a b ∷ line) h = has_first line h
 has_first (Portal a ∷ line) h = has_first line h
 has_first (Buffer a ∷ line) h = has_first line h
+has_first (Brake ticks runaway rate ∷ line) h = has_first line h
 has_first (Silent ms ∷ line) h = has_first line h
 
 counted : (test : ℕ → Bool) (z n : ℕ) → test z ≡ true → z < n → 0 < count_below test n
@@ -66,7 +67,7 @@ no_zone_at line v at =
     omega arith
 
 abbrev pub parts_start : Line → Parts
-parts_start line = record { world = world_start; zone = zone_start (zone_id line); to_zone = []; to_world = [] }
+parts_start line = record { world = world_start line; zone = zone_start (zone_id line); to_zone = []; to_world = [] }
 
 no_loss : (line : Line) (from to : ℕ) (lost : List Bool) → length lost ≡ 200001 → ((n : ℕ) → lost_at lost n ≡ false) → KeepsLost lost from to (story_of line [])
 unfolding story_of ever
@@ -78,7 +79,7 @@ starts line k t zone v one h none on = record {
   one_zone = record { valid = v; one = one };
   kept = tt;
   few = omega arith;
-  refines = rw h (same_refined line [] (parts_start line) plain_start (record { valid = v; one = one }) refl refl refl refl (refines_start line));
+  refines = rw h (same_refined line [] (parts_start line) (plain_start line) (record { valid = v; one = one }) refl refl refl refl (refines_start line));
   taken_zone = none.by_zone;
   taken_world = none.by_world;
   lost_zone = no_loss line 0 (zone_id line) t.lost_to_zone none.size_zone none.lost_to_zone;

@@ -8,11 +8,12 @@ use Rattle.list_laws.proofs.By_test.{by_test}
 use Rattle.track_points.specs.declared.ids.DirSeg.{DirSeg}
 use Rattle.track_points.specs.declared.ids.TrainId.{TrainId}
 use Rattle.definitions.specs.declared.event.Event.{Event}
-use Rattle.definitions.specs.declared.event.Event.TheVariants.{Entry, Enter, Ask, Report, Time, Take, Noise}
+use Rattle.definitions.specs.declared.event.Event.TheVariants.{Entry, Enter, Ask, Report, Time, Close, Open, Take, Noise}
 use Rattle.definitions.specs.declared.message.Msg.{Msg}
 use Rattle.definitions.specs.declared.message.Msg.TheVariants as msg
+use Rattle.definitions.specs.declared.message.Order.TheVariants as orders
 use Rattle.definitions.specs.Frames.{frame_at}
-use Rattle.definitions.specs.Track.{Line, zone_of, has_zone, is_actor, begins_at_portal}
+use Rattle.definitions.specs.Track.{Line, zone_of, has_zone, has_segment, is_actor, begins_at_portal}
 use Rattle.definitions.specs.Story.{Transition, Story, sent, to_actor, first_told, by_world, world_took}
 use Rattle.definitions.specs.World.{Facts, facts_of, clock, HeldPath, taken_entry, is_declared, entry_authority}
 use Rattle.definitions.specs.Premises.{built}
@@ -98,6 +99,10 @@ module _ (line : Line) (one : IsLineOfOneZone line) where
   unfolding ToAll
   told z m h = (zone_only line z one.one h, tt)
 
+  ordered : (seg : ℕ) (m : Msg) → has_segment line seg ≡ true → ToAll (zone_id line) ((zone_of line seg, m) ∷ [])
+  unfolding ToAll
+  ordered seg m h = (zone_is line seg one h, tt)
+
   requested : (time : ℕ) (t : TrainId) (step : DirSeg) (f : Option Facts) → begins_at_portal line step ≡ true → ToAll (zone_id line) (requesting time t step (zone_of line step.seg.0) f).issued
   unfolding ToAll
   requested time t step None h = tt
@@ -121,7 +126,7 @@ module _ (line : Line) (one : IsLineOfOneZone line) where
             let sender = actor_is line from one (and_parts (is_actor line 0) (is_actor line from) a.1).1 off in
             record {
               actor = λ h. absurd cc;
-              to_zone = λ h. to_one (Replies s from) (zone_id line) (λ x r. r.to_sender ∙ sender) (world_takes s from m).issued (world_issues s from m);
+              to_zone = λ h. to_one (Replies s from) (zone_id line) (λ x r. r.to_sender ∙ sender) (world_takes line s from m).issued (world_issues line s from m);
               to_world = λ h. absurd cc;
               took = λ y h e. sym (ap (λ (x : ℕ × Msg). x.0) (same_Some (from, m) y e)) ∙ sender;
             }
@@ -149,6 +154,12 @@ module _ (line : Line) (one : IsLineOfOneZone line) where
   addressed_next s (Time z t) h a =
       let m = msg.Time (clock s) t in
       own (Time z t) (telling z.0 m) (told z.0 m (and_parts (has_zone line z.0) _ h).0)
+  addressed_next s (Close seg) h a =
+      let m = msg.Order (clock s) (orders.Close seg) in
+      own (Close seg) (telling (zone_of line seg.0) m) (ordered seg.0 m h)
+  addressed_next s (Open seg) h a =
+      let m = msg.Order (clock s) (orders.Open seg) in
+      own (Open seg) (telling (zone_of line seg.0) m) (ordered seg.0 m h)
   addressed_next s (Noise to from bytes) h a = own (Noise to from bytes) (hearing_noise to (frame_at bytes.items)) (subst (ToAll (zone_id line)) (sym (noise_issues to (frame_at bytes.items))) tt)
   addressed_next s e h a = own e nothing tt
 

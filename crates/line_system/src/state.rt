@@ -129,7 +129,7 @@ pub struct State {
 impl State {
     /// The state before the first event.
     pub fn new(alloc: Global, line: &Line, zone: ZoneId) -> Result<State, AllocError>
-        ensures start { IfOk result (λ s. parts s ≡ record { world = world_start; zone = zone_start zone.0; to_zone = []; to_world = [] }) }
+        ensures start { IfOk result (λ s. parts s ≡ record { world = world_start line.now; zone = zone_start zone.0; to_zone = []; to_world = [] }) }
         ensures tally { IfOk result (λ s. IsStart (tally s)) }
         ensures on_line { IfOk result (λ s. IsZoneOn line.now s.zone) }
     {
@@ -290,6 +290,7 @@ impl State {
             Event::Time(zone, train) => {
                 line.has_zone(*zone) && (train.0 == 0 || self.is_declared(*train))
             }
+            Event::Close(seg) | Event::Open(seg) => line.has_segment(*seg),
             Event::Take(to, from, _) => is_link(line, *to, *from),
             Event::Deliver(to) => is_actor(line, *to),
             Event::Noise(to, from, bytes) => {

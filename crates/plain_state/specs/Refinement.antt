@@ -1,13 +1,13 @@
 -- Refines: what the plain state tells is what the story tells.
-use Rattle.std.specs.Prelude.{◌≡◌, ℕ, ◌+◌, ◌-◌, ◌*◌, ◌≤◌, List, [], ◌∷◌, length, take, if◌then◌else◌, true, false, ◌&&◌, nat_lt, nat_le, Option, Some, None, is_some}
+use Rattle.std.specs.Prelude.{◌≡◌, ℕ, ◌+◌, ◌-◌, ◌*◌, ◌≤◌, List, [], ◌∷◌, length, take, if◌then◌else◌, true, false, ◌&&◌, nat_eq, nat_lt, nat_le, Option, Some, None, is_some}
 use Rattle.track_points.specs.declared.ids.DirSeg.{DirSeg}
 use Rattle.track_points.specs.Points.{Lengths, Point, total, end_place}
 use Rattle.envelope.specs.Fronts.{is_front}
-use Rattle.definitions.specs.Track.{Line, seg_len, last_step, has_zone}
+use Rattle.definitions.specs.Track.{Line, seg_len, zone_of, brake_of, last_step, has_zone}
 use Rattle.definitions.specs.Ways.{PlainWay}
 use Rattle.definitions.specs.Story.{Story, sent}
 use Rattle.definitions.specs.World as world
-use Rattle.definitions.specs.World.{clock, Facts, facts_of, is_declared, first_entry, entered, head, journey, HeldPath, entry_authority, limit_place, last_number}
+use Rattle.definitions.specs.World.{elapsed, clock, Facts, facts_of, is_declared, first_entry, entered, moved, head, journey, HeldPath, entry_authority, limit_place, last_number, last_taken}
 use Rattle.definitions.specs.Premises.{head_offset}
 use Rattle.definitions.specs.Control.{known_trains, known_facts, now_of, last_issued}
 use Rattle.definitions.specs.Account.{Account, shrink_end}
@@ -15,23 +15,27 @@ use Rattle.definitions.specs.Fold.{account}
 use Rattle.definitions.specs.Longest.{counted, longest_route}
 use Rattle.definitions.specs.Fronts.{possible_front, least_rear, greatest_front, report_time}
 use Rattle.definitions.specs.Authority.{way, held}
+use Rattle.definitions.specs.Closures.{is_closed}
+use Rattle.definitions.specs.Steps.{sender_of}
 use Rattle.plain_state.specs.declared.Head.{Head}
-use Rattle.plain_state.specs.declared.EntryAuthority.{EntryAuthority}
+use Rattle.plain_state.specs.declared.Pace.{Pace}
+use Rattle.onboard.specs.declared.onboard.Onboard.{Onboard}
+use Rattle.onboard.specs.Decision.{path_mm}
 use Rattle.plain_state.specs.declared.WorldTrain.{WorldTrain}
 use Rattle.plain_state.specs.declared.Shrink.{Shrink}
 use Rattle.plain_state.specs.declared.Controlled.{Controlled}
 use Rattle.way_path.specs.Ways.{plain_way, with_end}
-use Rattle.plain_state.specs.World.{find_train}
-use Rattle.plain_state.specs.Zone.{PlainZone, find_controlled, hold_has}
+use Rattle.plain_state.specs.World.{find_train, paced}
+use Rattle.plain_state.specs.Zone.{PlainZone, find_controlled, hold_has, closed_at}
 use Rattle.definitions.specs.Zones.{zone_id}
 use Rattle.plain_state.specs.Plain.{Plain, is_link}
 
--- A train of the world by the notions: what is declared of it, its first request, its entry authority, where its head is,
--- how far it may go on, and its last answer.
+-- A train of the world by the notions: what is declared of it, its first request, the zone that sent its entry authority, where
+-- its head is, how fast it went, and what it keeps of its authorities.
 
-abbrev pub kept_authority : Lengths → Option HeldPath → Option EntryAuthority
-kept_authority len None = None
-kept_authority len (Some h) = Some (record { zone = h.zone; limit = end_place len h.authority.path })
+abbrev pub mm_of_entry : Lengths → Option HeldPath → Option ℕ
+mm_of_entry len None = None
+mm_of_entry len (Some h) = Some (path_mm len h.authority.path)
 
 abbrev pub head_of : Line → ℕ → Story → Option Head
 head_of line t s =
@@ -39,23 +43,36 @@ head_of line t s =
     then Some (record { step = last_step (journey line t s); mark = length (journey line t s) - 1; offset = head_offset line t s })
     else None
 
-abbrev pub world_of : ℕ → Option Facts → Option DirSeg → Option EntryAuthority → Option Head → ℕ → ℕ → Option WorldTrain
-world_of t None entry authority head_ room last = None
-world_of t (Some f) entry authority head_ room last = Some (record {
+-- the speed in the last step that moved the train, and the clock after that step
+unfoldable pub pace_of : ℕ → Story → Pace
+pace_of t [] = record { speed = 0; at = 0 }
+pace_of t (e ∷ s) = paced (elapsed e.event) (clock (e ∷ s)) (moved t e.event) (pace_of t s)
+
+abbrev pub onboard_of : Line → ℕ → Story → Onboard
+onboard_of line t s = record {
+  entry = mm_of_entry (seg_len line) (entry_authority t s);
+  room = limit_place line t s - head t s;
+  last = last_number t s;
+  taken = last_taken line t s;
+}
+
+abbrev pub world_of : ℕ → Option Facts → Option DirSeg → Option ℕ → Option Head → Pace → Onboard → Option WorldTrain
+world_of t None entry sender head_ pace onboard = None
+world_of t (Some f) entry sender head_ pace onboard = Some (record {
   id = record { 0 = t };
   train_length = f.long;
   error = f.error;
   speed = f.speed;
   entry = entry;
-  authority = authority;
+  sender = sender;
   head = head_;
-  room = room;
-  last = last;
+  pace = pace;
+  onboard = onboard;
 })
 
 abbrev pub world_train : Line → ℕ → Story → Option WorldTrain
 world_train line t s =
-    world_of t (facts_of t s) (first_entry t s) (kept_authority (seg_len line) (entry_authority t s)) (head_of line t s) (limit_place line t s - head t s) (last_number t s)
+    world_of t (facts_of t s) (first_entry t s) (sender_of (entry_authority t s)) (head_of line t s) (pace_of t s) (onboard_of line t s)
 
 -- A train of the zone by the notions: its facts, its way, where its front may be, its last report, its numbers, and the
 -- shrink that is not answered. The
@@ -112,10 +129,13 @@ pub record ZoneRefines (line : Line) (z : ℕ) (s : Story) (y : PlainZone) : Typ
   pub holds : (t : ℕ) (point : Point) → hold_has line y.id (find_controlled t y.trains) point ≡ held line z t s point
   pub known : ids y.trains ≡ known_trains z s
   pub distinct : Distinct y.trains
+  pub segments : length y.closed ≡ 32768
+  pub closed : (seg : ℕ) → nat_eq (zone_of line seg) z ≡ true → closed_at y.closed seg ≡ is_closed z seg s
   pub marks : (t : ℕ) (x : Controlled) → find_controlled t y.trains ≡ Some x → x.way.mark + length x.way.path.steps.items ≤ 24 * length s
 
 pub record Refines (line : Line) (s : Story) (p : Plain) : Type 0 where
   -- the world
+  pub brake : p.world.brake ≡ brake_of line
   pub time : p.world.clock ≡ clock s
   pub trains : (t : ℕ) → find_train t p.world.trains ≡ world_train line t s
   pub count : length p.world.trains ≡ length (world.trains s)

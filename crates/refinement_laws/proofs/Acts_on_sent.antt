@@ -1,53 +1,48 @@
 -- Every message of a link is acted on: what is sent fits, and no number or mark is near the end of its type.
 use Rattle.std.proofs.Common.{◌≡◌, ℕ, ◌+◌, ◌-◌, ◌*◌, ◌<◌, ◌≤◌, List, length, take, Option, Some, None, Bool, true, false, ◌&&◌, ◌||◌, refl, sym, ◌∙◌, ap, arith, not, if◌then◌else◌}
 use Rattle.std.proofs.lemmas.Bool.Decides.{nat_tests}
-use Rattle.std.proofs.lemmas.Bool.{eqb-true, and_parts}
+use Rattle.std.proofs.lemmas.Bool.{eqb-true}
 use Rattle.std.proofs.lemmas.List.{length-take-le, length-append}
 use Rattle.std.specs.Prelude.{nat_eq, nat_le, nat_lt, is_some, slice_get}
 use Rattle.std.specs.List.{list_all}
 use Rattle.list_laws.proofs.By_test.{eq_self, by_test}
-use Rattle.track_points.specs.declared.ids.Dir.{Dir}
-use Rattle.track_points.specs.declared.ids.Dir.TheVariants.{Up, Down}
 use Rattle.track_points.specs.declared.ids.DirSeg.{DirSeg}
 use Rattle.track_points.specs.declared.path.Path.{Path}
-use Rattle.track_points.specs.Points.{Lengths, dir_eq, step_eq, total, end_place, steps_to, no_segment_twice}
+use Rattle.track_points.specs.Points.{Lengths, steps_to}
 use Rattle.definitions.specs.declared.message.Msg.{Msg}
 use Rattle.definitions.specs.declared.message.Msg.TheVariants as msg
-use Rattle.definitions.specs.Track.{Line, seg_len, last_step, zone_of}
-use Rattle.definitions.specs.Ways.{PlainWay, chained, path_in_range, way_between}
-use Rattle.definitions.specs.Premises.{head_offset}
+use Rattle.definitions.specs.declared.message.Order.{Order}
+use Rattle.definitions.specs.declared.message.Order.TheVariants as orders_
+use Rattle.definitions.specs.Track.{Line, seg_len, zone_of}
+use Rattle.definitions.specs.Ways.{PlainWay, way_between}
 use Rattle.definitions.specs.Story.{Story, sent}
-use Rattle.definitions.specs.World.{Facts, facts_or, facts_of, long_of, first_entry, entered, head, journey, limit_place, last_number, entry_authority, auth_number, Authority, authority_end}
+use Rattle.definitions.specs.World.{Facts, facts_or, facts_of, long_of, first_entry, entered, entry_authority, auth_number, Authority}
 use Rattle.definitions.specs.Control.{controls, known_facts, last_issued}
 use Rattle.definitions.specs.Longest.{counted, longest_end, longest_route}
 use Rattle.definitions.specs.Authority.{way}
-use Rattle.definitions.specs.Steps.{entry_path}
+use Rattle.definitions.specs.Steps.{entry_path, sender_of}
 use Rattle.definitions.specs.Safe.{IsLineOfOneZone}
 use Rattle.plain_state.specs.declared.WorldTrain.{WorldTrain}
 use Rattle.plain_state.specs.declared.Controlled.{Controlled}
-use Rattle.plain_state.specs.World.{auth_fits, covers_portal, is_step_at, lies_on, train_acts_on, world_acts_on}
-use Rattle.plain_state.specs.Zone.{find_controlled, fresh_number, fresh_mark, fresh_train, fresh_message, enters_here, zone_acts_on}
+use Rattle.plain_state.specs.World.{auth_fits, covers_portal, train_acts_on, world_acts_on}
+use Rattle.plain_state.specs.Zone.{find_controlled, fresh_number, fresh_mark, fresh_train, fresh_message, is_own, concerns, zone_acts_on}
 use Rattle.definitions.specs.Zones.{zone_id}
 use Rattle.plain_state.specs.Plain.{Plain}
-use Rattle.plain_state.specs.Refinement.{kept_authority, head_of, world_of, zone_train_of, ZoneRefines, Refines}
+use Rattle.plain_state.specs.Refinement.{mm_of_entry, head_of, pace_of, onboard_of, world_of, zone_train_of, ZoneRefines, Refines}
 use Rattle.event_laws.proofs.Entered_same.{number_most}
-use Rattle.event_laws.proofs.Issued_all.{issued_all}
+use Rattle.event_laws.proofs.Issued_all.{AllIssued, issued_all}
 use Rattle.way_laws.proofs.Line_builds.{portal_on_line}
-use Rattle.invariant_laws.proofs.One_route.{numbered_controls}
+use Rattle.invariant_laws.proofs.One_route.{path_parts, numbered_controls}
+use Rattle.invariant_laws.proofs.Head_on.{steps_few}
+use Rattle.invariant_laws.proofs.Accepted.{step_self}
 use Rattle.way_laws.proofs.Between_points.{between_mark, between_steps}
 use Rattle.invariant_laws.proofs.Invariant.{path_fits, AuthorityIs, FirstIs, AuthIs, AuthTrue, RequestTrue, Invariant}
 use Rattle.plain_state.proofs.Found_changed.{all_found}
 use Rattle.refinement_laws.proofs.The_zone.{the_zone}
 use Rattle.invariant_laws.proofs.Zone_only.{zone_is}
 use Rattle.refinement_laws.proofs.Way_of.{way_of}
-use Rattle.refinement_laws.proofs.Head_on.{HeadOn, head_on, steps_few}
-
-step_self : (st : DirSeg) → step_eq st st ≡ true
-step_self st = rw (eq_self st.seg.0) (same st.dir)
-  where
-    same : (d : Dir) → dir_eq d d ≡ true
-    same Up = refl
-    same Down = refl
+use Rattle.refinement_laws.proofs.Accepts_now.{range_of}
+use Rattle.refinement_laws.proofs.Order_true.{IsOnLine, OrderTrue}
 
 -- The marks of authorities.
 module _ (line : Line) (s : Story) (p : Plain) (one : IsLineOfOneZone line) (k : Refines line s p) (invariant : (t : ℕ) → Invariant line t s) where
@@ -83,18 +78,16 @@ module _ (line : Line) (s : Story) (p : Plain) (one : IsLineOfOneZone line) (k :
   marks_few t a is c =
       let w = way_of line t s one.valid (invariant t) c in
       let n = way_steps t c in
-      let f = steps_few line t s one.valid (invariant t) c a is in
+      let f = steps_few line t s (invariant t).authorized (invariant t).motion c a is in
       omega (arith, f, n)
 
   -- The world.
 
   fitting : (path : Path) (mark : ℕ) → path_fits line path ≡ true → mark + length path.steps.items < 4294967296 → auth_fits line mark path ≡ true
   fitting path mark h low =
-      let b = and_parts (chained line path.steps.items) (no_segment_twice path.steps.items && (path_in_range (seg_len line) path && nat_le (length path.steps.items) 24)) h in
-      let c = and_parts (no_segment_twice path.steps.items) (path_in_range (seg_len line) path && nat_le (length path.steps.items) 24) b.1 in
-      let d = and_parts (path_in_range (seg_len line) path) (nat_le (length path.steps.items) 24) c.1 in
+      let parts = path_parts line path h in
       let small : nat_lt (mark + length path.steps.items) 4294967296 ≡ true = grind (arith, nat_tests) in
-      rw (b.0, c.0, d.0) small
+      rw (parts.chain, parts.once, range_of line path h) small
 
   covers : (t : ℕ) (mark : ℕ) (path : Path) → FirstIs line t s (record { mark = mark; path = path }) → (nat_eq mark 0 && covers_portal (seg_len line) (first_entry t s) (long_of t s) path) ≡ true
   covers t mark path f =
@@ -104,41 +97,13 @@ module _ (line : Line) (s : Story) (p : Plain) (one : IsLineOfOneZone line) (k :
       ap (λ (e : Option DirSeg). covers_portal len e (long_of t s) path) f.first ∙ ap (λ (x : Path). covers_portal len (Some f.step) (long_of t s) x) f.path in
       rw (m, q, step_self f.step, eq_self (len f.step.seg.0), r) refl
 
-  lies : (t : ℕ) (mark : ℕ) (path : Path) → HeadOn line t s (record { mark = mark; path = path }) → head t s ≤ authority_end (seg_len line) (journey line t s) (record { mark = mark; path = path })
-      → lies_on (seg_len line) mark path (record { step = last_step (journey line t s); mark = length (journey line t s) - 1; offset = head_offset line t s }) ≡ true
-  lies t mark path h ahead =
-      let m : nat_le mark (length (journey line t s) - 1) ≡ true = let z = h.mark in grind (arith, nat_tests) in
-      let q = h.place in
-      let e : nat_le (total len (take (length (journey line t s) - 1 - mark) path.steps.items) + head_offset line t s) (end_place len path) ≡ true = within _ _ _ _ q ahead in
-      let st : is_step_at (last_step (journey line t s)) (slice_get path.steps.items (length (journey line t s) - 1 - mark)) ≡ true =
-      ap (λ (x : Option DirSeg). is_step_at (last_step (journey line t s)) x) h.step ∙ step_self (last_step (journey line t s)) in
-      rw (m, st, e) refl
-    where
-      within : (begin x end at : ℕ) → begin + x ≡ at → at ≤ begin + end → nat_le x end ≡ true
-      within begin x end at a b = grind (arith, nat_tests)
-
-  -- an authority of a new number ends no nearer than the train is
-  pub new_ahead : (t number : ℕ) (a : Authority) → AuthIs line t s number a → entered t s ≡ true → last_number t s ≤ number → head t s ≤ authority_end (seg_len line) (journey line t s) a
-  new_ahead t number a is on h =
-      let l = (invariant t).authorized.limit on in
-      let e = is.exact in
-      let n = l.number in
-      let o = l.ahead in
-      let m = (invariant t).authorized.rising (last_number t s) number (omega arith) h is.known in
-      omega (arith, e, n, o, m)
-
-  acts_on : (t number mark : ℕ) (path : Path) → AuthIs line t s number (record { mark = mark; path = path }) → controls (zone_id line) t s ≡ true
-      → (f : Option Facts) → facts_of t s ≡ f
-      → train_acts_on (seg_len line) (world_of t f (first_entry t s) (kept_authority (seg_len line) (entry_authority t s)) (head_of line t s) (limit_place line t s - head t s) (last_number t s)) number mark path ≡ true
-  acts_on t number mark path is c None e = refl
-  acts_on t number mark path is c (Some f) e =
+  acts_on : (t number mark : ℕ) (path : Path) → AuthIs line t s number (record { mark = mark; path = path }) → (f : Option Facts) → facts_of t s ≡ f
+      → train_acts_on (seg_len line) (world_of t f (first_entry t s) (sender_of (entry_authority t s)) (head_of line t s) (pace_of t s) (onboard_of line t s)) number mark path ≡ true
+  acts_on t number mark path is None e = refl
+  acts_on t number mark path is (Some f) e =
       by_test (entered t s)
-      (λ on. rw on (by_test (nat_le number (last_number t s))
-      (λ y. rw y refl)
-      (λ n.
-      let ahead = new_ahead t number (record { mark = mark; path = path }) is on (grind (arith, nat_tests)) in
-      rw n (lies t mark path (head_on line t s one.valid (invariant t) c on (record { mark = mark; path = path }) is.authority ahead) ahead))))
-      (λ off. rw off (either (is_some (kept_authority len (entry_authority t s))) (nat_eq number 1) (nat_eq mark 0 && covers_portal len (first_entry t s) f.long path)
+      (λ on. rw on refl)
+      (λ off. rw off (either (is_some (mm_of_entry len (entry_authority t s))) (nat_eq number 1) (nat_eq mark 0 && covers_portal len (first_entry t s) f.long path)
       (λ y.
       let l : long_of t s ≡ f.long = ap (λ (x : Option Facts). (facts_or x).long) e in
       ap (λ (n : ℕ). nat_eq mark 0 && covers_portal len (first_entry t s) n path) (sym l) ∙ covers t mark path (is.first off (eqb-true number 1 y)))))
@@ -148,7 +113,7 @@ module _ (line : Line) (s : Story) (p : Plain) (one : IsLineOfOneZone line) (k :
       either false false d h = refl
       either false true d h = h refl
 
-  module _ (short : length s < 100000000) where
+  module _ (short : length s < 100000000) (orders : AllIssued (OrderTrue line) s) where
     pub world_acts_on_sent : (from to j : ℕ) (m : Msg) → slice_get (sent from to s) j ≡ Some m → world_acts_on line p.world.trains m ≡ true
     world_acts_on_sent from to j (msg.Auth u number mark path) is =
         let t = u.0 in
@@ -160,7 +125,7 @@ module _ (line : Line) (s : Story) (p : Plain) (one : IsLineOfOneZone line) (k :
         let c = numbered_controls line t s (invariant t).authorized (omega (arith, n, b)) in
         let few = marks_few t (record { mark = mark; path = path }) a.authority c in
         rw (fitting path mark a.authority.fits (omega (arith, few, short)))
-        (ap (λ (x : Option WorldTrain). train_acts_on len x number mark path) (k.trains t) ∙ acts_on t number mark path a c (facts_of t s) refl)
+        (ap (λ (x : Option WorldTrain). train_acts_on len x number mark path) (k.trains t) ∙ acts_on t number mark path a (facts_of t s) refl)
     world_acts_on_sent from to j _ is = refl
 
     -- The zone.
@@ -213,14 +178,20 @@ module _ (line : Line) (s : Story) (p : Plain) (one : IsLineOfOneZone line) (k :
         rw (x, y) refl
     fresh_taken from to j _ is = refl
 
-    entered_here : (from to j : ℕ) (m : Msg) → slice_get (sent from to s) j ≡ Some m → enters_here line (zone_id line) m ≡ true
-    entered_here from to j (msg.EntryAsk u time long error speed equipped step) is =
+    own_order : (order : Order) → IsOnLine line order → is_own line (zone_id line) order ≡ true
+    own_order (orders_.Close seg) h = let zone = zone_is line seg.0 one h in rw zone (eq_self (zone_id line))
+    own_order (orders_.Open seg) h = let zone = zone_is line seg.0 one h in rw zone (eq_self (zone_id line))
+    own_order _ h = refl
+
+    concerned : (from to j : ℕ) (m : Msg) → slice_get (sent from to s) j ≡ Some m → concerns line (zone_id line) m ≡ true
+    concerned from to j (msg.EntryAsk u time long error speed equipped step) is =
         let r = issued_all (RequestTrue line u.0 s) from to s j (msg.EntryAsk u time long error speed equipped step) (invariant u.0).authorized.requests is (eq_self u.0) in
         let zone : zone_of line step.seg.0 ≡ zone_id line = zone_is line step.seg.0 one (portal_on_line line step one.valid r.portal) in
         rw (r.portal, zone) (eq_self (zone_id line))
-    entered_here from to j _ is = refl
+    concerned from to j (msg.Order time order) is = own_order order (issued_all (OrderTrue line) from to s j (msg.Order time order) orders is)
+    concerned from to j _ is = refl
 
     pub zone_acts_on_sent : (from to j : ℕ) (m : Msg) → slice_get (sent from to s) j ≡ Some m → zone_acts_on line (p.zones (zone_id line)) 0 m ≡ true
     zone_acts_on_sent from to j m is =
-        let here : enters_here line (p.zones (zone_id line)).id m ≡ true = ap (λ (z : ℕ). enters_here line z m) own.id ∙ entered_here from to j m is in
+        let here : concerns line (p.zones (zone_id line)).id m ≡ true = ap (λ (z : ℕ). concerns line z m) own.id ∙ concerned from to j m is in
         rw (here, fresh_taken from to j m is, fresh_trains) refl

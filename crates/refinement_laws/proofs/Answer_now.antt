@@ -29,7 +29,7 @@ use Rattle.front_laws.proofs.Fronts_numbers.{grown_to}
 use Rattle.front_laws.proofs.Taken_counts.{counted_answered}
 use Rattle.event_laws.proofs.Last_quiet.{last_quiet}
 use Rattle.plain_state.proofs.Found_changed.{mapped, found_changed, found_other, ids_change, distinct_change}
-use Rattle.refinement_laws.proofs.Way_now.{Grown, way_now, last_now, known_now, full_now, holder_now, reach_now}
+use Rattle.refinement_laws.proofs.Way_now.{Grown, Shut, way_now, last_now, known_now, full_now, holder_now, reach_now}
 use Rattle.refinement_laws.proofs.Facts_is.{way_is_known}
 use Rattle.refinement_laws.proofs.Zone_kept.{kept_train}
 use Rattle.event_laws.proofs.Issued_all.{NoAuth}
@@ -44,29 +44,29 @@ time_by : (line : Line) (u : TrainId) (s : Story) (clock : ℕ) (w : Option Plai
 time_by line u s clock None = refl
 time_by line u s clock (Some w) = refl
 
-pub answer_now : (line : Line) (z number : ℕ) (s : Story) → IsLineOfOneZone line → suc z ≡ zone_id line → ((t : ℕ) → Invariant line t s) → (m : Msg) (ways : List Controlled) → Grown line s (now_with (zone_id line) s m) ways
-    → zone_takes line (zone_id line) 0 s m ≡ zone_answer line (zone_id line) (now_with (zone_id line) s m) ways m
-answer_now line z number s one zone invariant (msg.EntryAsk u time long error speed equipped step) ways g =
+pub answer_now : (line : Line) (z number : ℕ) (s : Story) → IsLineOfOneZone line → suc z ≡ zone_id line → ((t : ℕ) → Invariant line t s) → (m : Msg) (ways : List Controlled) → Grown line s (now_with (zone_id line) s m) ways → (closed : List Bool) → Shut line s closed
+    → zone_takes line (zone_id line) 0 s m ≡ zone_answer line (zone_id line) (now_with (zone_id line) s m) ways closed m
+answer_now line z number s one zone invariant (msg.EntryAsk u time long error speed equipped step) ways g closed shut =
     let m = msg.EntryAsk u time long error speed equipped step in
     let n = now_with (zone_id line) s m in
     let z0 = zone_id line in
     ap (λ (b : Bool). zone_entry z0 b (knows_most z0 s) (seg_len line step.seg.0) u long step (holder_of line z0 s step.seg.0)) (sym (known_now line s one.valid invariant n ways g u.0))
     ∙ (ap (λ (b : Bool). zone_entry z0 (is_some (find_controlled u.0 ways)) b (seg_len line step.seg.0) u long step (holder_of line z0 s step.seg.0)) (sym (full_now line s one.valid invariant n ways g))
     ∙ ap (λ (h : Option ℕ). zone_entry z0 (is_some (find_controlled u.0 ways)) (full ways) (seg_len line step.seg.0) u long step h) (sym (holder_now line s one.valid invariant n ways g step.seg.0)))
-answer_now line z number s one zone invariant (msg.Ask u time steps to) ways g =
+answer_now line z number s one zone invariant (msg.Ask u time steps to) ways g closed shut =
     let m = msg.Ask u time steps to in
     let n = now_with (zone_id line) s m in
     let z0 = zone_id line in
     ap (λ (k : ℕ). zone_ask (seg_len line) z0 u k (way line z0 u.0 s) steps.items (limit line z0 u.0 s n steps.items to)) (sym (last_now line s one.valid invariant n ways g u.0))
     ∙ (ap (λ (w : Option PlainWay). zone_ask (seg_len line) z0 u (last_found (find_controlled u.0 ways)) w steps.items (limit line z0 u.0 s n steps.items to)) (sym (way_now line s one.valid invariant n ways g u.0))
-    ∙ ap (λ (r : Reach). zone_ask (seg_len line) z0 u (last_found (find_controlled u.0 ways)) (way_found (find_controlled u.0 ways)) steps.items r) (sym (reach_now line s one.valid invariant n ways g u.0 steps.items to n)))
-answer_now line z number s one zone invariant (msg.Report u time mark offset integrity) ways g = report_answer line z number u time mark offset integrity s one zone invariant ways g
-answer_now line z number s one zone invariant (msg.Time time u) ways g =
+    ∙ ap (λ (r : Reach). zone_ask (seg_len line) z0 u (last_found (find_controlled u.0 ways)) (way_found (find_controlled u.0 ways)) steps.items r) (sym (reach_now line s one.valid invariant n ways g u.0 steps.items to n closed shut)))
+answer_now line z number s one zone invariant (msg.Report u time mark offset integrity) ways g closed shut = report_answer line z number u time mark offset integrity s one zone invariant ways g
+answer_now line z number s one zone invariant (msg.Time time u) ways g closed shut =
     let n = now_with (zone_id line) s (msg.Time time u) in
     let z0 = zone_id line in
     ap (λ (b : Bool). zone_time b (counted line u.0 s) (last_issued u.0 s) u (way line z0 u.0 s)) (sym (way_is_known line z0 u.0 s))
     ∙ (time_by line u s n (way line z0 u.0 s) ∙ ap (λ (x : Option Controlled). again_found u x) (sym (g.found u.0)))
-answer_now line z number s one zone invariant _ ways g = refl
+answer_now line z number s one zone invariant _ ways g closed shut = refl
 
 -- An answer that the zone takes.
 module _ (line : Line) (z number : ℕ) (u : TrainId) (time n : ℕ) (taken : Bool) (e : Effect) (s : Story) (one : IsLineOfOneZone line) (zone : suc z ≡ zone_id line) (invariant : (t : ℕ) → Invariant line t s)

@@ -7,17 +7,18 @@ use Rattle.track_points.specs.Points.{Lengths}
 use Rattle.definitions.specs.Track.{Line, seg_len}
 use Rattle.definitions.specs.Story.{Story}
 use Rattle.definitions.specs.Ways.{PlainWay}
-use Rattle.definitions.specs.World.{Facts, facts_or, facts_of, is_declared, error_of, speed_of, first_entry, entered, head, HeldPath, entry_authority, last_number, limit_place}
+use Rattle.definitions.specs.World.{Facts, facts_or, facts_of, is_declared, error_of, speed_of, first_entry, entered, head, HeldPath, entry_authority, last_number, last_taken, limit_place}
 use Rattle.definitions.specs.Control.{controls}
 use Rattle.definitions.specs.Authority.{way}
 use Rattle.definitions.specs.Steps.{sender_of}
 use Rattle.plain_state.specs.declared.Head.{Head}
 use Rattle.plain_state.specs.declared.WorldTrain.{WorldTrain}
-use Rattle.plain_state.specs.declared.EntryAuthority.{EntryAuthority}
-use Rattle.plain_state.specs.World.{find_train, facts_found, entry_found, kept_sender, authority_found, head_found, on_found, number_found, room_found, error_found, speed_found}
+use Rattle.plain_state.specs.declared.Pace.{Pace}
+use Rattle.onboard.specs.declared.onboard.Onboard.{Onboard}
+use Rattle.plain_state.specs.World.{find_train, facts_found, entry_found, sender_found, authorized_found, head_found, on_found, number_found, taken_found, room_found, error_found, speed_found}
 use Rattle.definitions.specs.Zones.{zone_id}
 use Rattle.plain_state.specs.Plain.{Plain}
-use Rattle.plain_state.specs.Refinement.{kept_authority, head_of, world_of, Refines}
+use Rattle.plain_state.specs.Refinement.{mm_of_entry, head_of, onboard_of, world_of, Refines}
 use Rattle.invariant_laws.proofs.Invariant.{Invariant}
 
 -- A train that the zone does not control has no way, and one that it controls has.
@@ -33,46 +34,53 @@ no_way_unknown line z t s h = sym (way_is_known line z t s) ∙ ap (λ (x : Opti
 
 -- What is found of a train of the world.
 
-facts_of_world : (t : ℕ) (f : Option Facts) (e : Option DirSeg) (a : Option EntryAuthority) (h : Option Head) (m n : ℕ) → facts_found (world_of t f e a h m n) ≡ f
-facts_of_world t None e a h m n = refl
-facts_of_world t (Some f) e a h m n = refl
+facts_of_world : (t : ℕ) (f : Option Facts) (e : Option DirSeg) (a : Option ℕ) (h : Option Head) (p : Pace) (o : Onboard) → facts_found (world_of t f e a h p o) ≡ f
+facts_of_world t None e a h p o = refl
+facts_of_world t (Some f) e a h p o = refl
 
-some_of_world : (t : ℕ) (f : Option Facts) (e : Option DirSeg) (a : Option EntryAuthority) (h : Option Head) (m n : ℕ) → is_some (world_of t f e a h m n) ≡ is_some f
-some_of_world t None e a h m n = refl
-some_of_world t (Some f) e a h m n = refl
+some_of_world : (t : ℕ) (f : Option Facts) (e : Option DirSeg) (a : Option ℕ) (h : Option Head) (p : Pace) (o : Onboard) → is_some (world_of t f e a h p o) ≡ is_some f
+some_of_world t None e a h p o = refl
+some_of_world t (Some f) e a h p o = refl
 
-entry_of_world : (t : ℕ) (f : Option Facts) (e : Option DirSeg) (a : Option EntryAuthority) (h : Option Head) (m n : ℕ) → (is_some f ≡ false → e ≡ None) → entry_found (world_of t f e a h m n) ≡ e
-entry_of_world t None e a h m n none = sym (none refl)
-entry_of_world t (Some f) e a h m n none = refl
+entry_of_world : (t : ℕ) (f : Option Facts) (e : Option DirSeg) (a : Option ℕ) (h : Option Head) (p : Pace) (o : Onboard) → (is_some f ≡ false → e ≡ None) → entry_found (world_of t f e a h p o) ≡ e
+entry_of_world t None e a h p o none = sym (none refl)
+entry_of_world t (Some f) e a h p o none = refl
 
-authority_of_world : (t : ℕ) (f : Option Facts) (e : Option DirSeg) (a : Option EntryAuthority) (h : Option Head) (m n : ℕ) → (is_some f ≡ false → kept_sender a ≡ None) → authority_found (world_of t f e a h m n) ≡ kept_sender a
-authority_of_world t None e a h m n none = sym (none refl)
-authority_of_world t (Some f) e a h m n none = refl
+sender_of_world : (t : ℕ) (f : Option Facts) (e : Option DirSeg) (a : Option ℕ) (h : Option Head) (p : Pace) (o : Onboard) → (is_some f ≡ false → a ≡ None) → sender_found (world_of t f e a h p o) ≡ a
+sender_of_world t None e a h p o none = sym (none refl)
+sender_of_world t (Some f) e a h p o none = refl
 
-head_of_world : (t : ℕ) (f : Option Facts) (e : Option DirSeg) (a : Option EntryAuthority) (h : Option Head) (m n : ℕ) → (is_some f ≡ false → h ≡ None) → head_found (world_of t f e a h m n) ≡ h
-head_of_world t None e a h m n none = sym (none refl)
-head_of_world t (Some f) e a h m n none = refl
+authorized_of_world : (t : ℕ) (f : Option Facts) (e : Option DirSeg) (a : Option ℕ) (h : Option Head) (p : Pace) (o : Onboard) → (is_some f ≡ false → o.entry ≡ None) → authorized_found (world_of t f e a h p o) ≡ is_some o.entry
+authorized_of_world t None e a h p o none = ap (λ (x : Option ℕ). is_some x) (sym (none refl))
+authorized_of_world t (Some f) e a h p o none = refl
 
-number_of_world : (t : ℕ) (f : Option Facts) (e : Option DirSeg) (a : Option EntryAuthority) (h : Option Head) (m n : ℕ) → (is_some f ≡ false → n ≡ 0) → number_found (world_of t f e a h m n) ≡ n
-number_of_world t None e a h m n none = sym (none refl)
-number_of_world t (Some f) e a h m n none = refl
+head_of_world : (t : ℕ) (f : Option Facts) (e : Option DirSeg) (a : Option ℕ) (h : Option Head) (p : Pace) (o : Onboard) → (is_some f ≡ false → h ≡ None) → head_found (world_of t f e a h p o) ≡ h
+head_of_world t None e a h p o none = sym (none refl)
+head_of_world t (Some f) e a h p o none = refl
 
-room_of_world : (t : ℕ) (f : Option Facts) (e : Option DirSeg) (a : Option EntryAuthority) (h : Option Head) (m n : ℕ) → is_some f ≡ true → room_found (world_of t f e a h m n) ≡ m
-room_of_world t None e a h m n some = absurd cc
-room_of_world t (Some f) e a h m n some = refl
+number_of_world : (t : ℕ) (f : Option Facts) (e : Option DirSeg) (a : Option ℕ) (h : Option Head) (p : Pace) (o : Onboard) → (is_some f ≡ false → o.last ≡ 0) → number_found (world_of t f e a h p o) ≡ o.last
+number_of_world t None e a h p o none = sym (none refl)
+number_of_world t (Some f) e a h p o none = refl
 
-error_of_world : (t : ℕ) (f : Option Facts) (e : Option DirSeg) (a : Option EntryAuthority) (h : Option Head) (m n : ℕ) → error_found (world_of t f e a h m n) ≡ (facts_or f).error
-error_of_world t None e a h m n = refl
-error_of_world t (Some f) e a h m n = refl
+taken_of_world : (t : ℕ) (f : Option Facts) (e : Option DirSeg) (a : Option ℕ) (h : Option Head) (p : Pace) (o : Onboard) → is_some f ≡ true → taken_found (world_of t f e a h p o) ≡ o.taken
+taken_of_world t None e a h p o some = absurd cc
+taken_of_world t (Some f) e a h p o some = refl
 
-speed_of_world : (t : ℕ) (f : Option Facts) (e : Option DirSeg) (a : Option EntryAuthority) (h : Option Head) (m n : ℕ) → speed_found (world_of t f e a h m n) ≡ (facts_or f).speed
-speed_of_world t None e a h m n = refl
-speed_of_world t (Some f) e a h m n = refl
+room_of_world : (t : ℕ) (f : Option Facts) (e : Option DirSeg) (a : Option ℕ) (h : Option Head) (p : Pace) (o : Onboard) → is_some f ≡ true → room_found (world_of t f e a h p o) ≡ o.room
+room_of_world t None e a h p o some = absurd cc
+room_of_world t (Some f) e a h p o some = refl
 
--- who sent the authority that is kept
-pub sender_kept : (len : Lengths) (a : Option HeldPath) → kept_sender (kept_authority len a) ≡ sender_of a
-sender_kept len None = refl
-sender_kept len (Some a) = refl
+error_of_world : (t : ℕ) (f : Option Facts) (e : Option DirSeg) (a : Option ℕ) (h : Option Head) (p : Pace) (o : Onboard) → error_found (world_of t f e a h p o) ≡ (facts_or f).error
+error_of_world t None e a h p o = refl
+error_of_world t (Some f) e a h p o = refl
+
+speed_of_world : (t : ℕ) (f : Option Facts) (e : Option DirSeg) (a : Option ℕ) (h : Option Head) (p : Pace) (o : Onboard) → speed_found (world_of t f e a h p o) ≡ (facts_or f).speed
+speed_of_world t None e a h p o = refl
+speed_of_world t (Some f) e a h p o = refl
+
+pub some_mm : (len : Lengths) (a : Option HeldPath) → is_some (mm_of_entry len a) ≡ is_some a
+some_mm len None = refl
+some_mm len (Some a) = refl
 
 -- a train without facts has none of the rest
 pub undeclared : (line : Line) (t : ℕ) (s : Story) → Invariant line t s → is_declared t s ≡ false → controls (zone_id line) t s ≡ false
@@ -106,10 +114,14 @@ module _ (line : Line) (s : Story) (p : Plain) (k : Refines line s p) (invariant
   pub entry_is : (t : ℕ) → entry_found (find_train t p.world.trains) ≡ first_entry t s
   entry_is t = ap (λ (x : Option WorldTrain). entry_found x) (k.trains t) ∙ entry_of_world t (facts_of t s) (first_entry t s) _ _ _ _ (k.unasked t)
 
-  pub authority_is : (t : ℕ) → authority_found (find_train t p.world.trains) ≡ sender_of (entry_authority t s)
-  authority_is t = ap (λ (x : Option WorldTrain). authority_found x) (k.trains t)
-      ∙ (authority_of_world t (facts_of t s) _ (kept_authority (seg_len line) (entry_authority t s)) _ _ _ (λ h. ap (λ (a : Option HeldPath). kept_sender (kept_authority (seg_len line) a)) (no_entry_authority line t s (invariant t) h))
-      ∙ sender_kept (seg_len line) (entry_authority t s))
+  pub sender_is : (t : ℕ) → sender_found (find_train t p.world.trains) ≡ sender_of (entry_authority t s)
+  sender_is t = ap (λ (x : Option WorldTrain). sender_found x) (k.trains t)
+      ∙ sender_of_world t (facts_of t s) _ (sender_of (entry_authority t s)) _ _ _ (λ h. ap (λ (a : Option HeldPath). sender_of a) (no_entry_authority line t s (invariant t) h))
+
+  pub authorized_is : (t : ℕ) → authorized_found (find_train t p.world.trains) ≡ is_some (entry_authority t s)
+  authorized_is t = ap (λ (x : Option WorldTrain). authorized_found x) (k.trains t)
+      ∙ (authorized_of_world t (facts_of t s) _ _ _ _ (onboard_of line t s) (λ h. ap (λ (a : Option HeldPath). mm_of_entry (seg_len line) a) (no_entry_authority line t s (invariant t) h))
+      ∙ some_mm (seg_len line) (entry_authority t s))
 
   pub head_is : (t : ℕ) → head_found (find_train t p.world.trains) ≡ head_of line t s
   head_is t = ap (λ (x : Option WorldTrain). head_found x) (k.trains t) ∙ head_of_world t (facts_of t s) _ _ (head_of line t s) _ _ (λ h. rw (k.stays_off t h) refl)
@@ -118,10 +130,13 @@ module _ (line : Line) (s : Story) (p : Plain) (k : Refines line s p) (invariant
   on_is t = ap (λ (x : Option Head). is_some x) (head_is t) ∙ some_head line t s
 
   pub number_is : (t : ℕ) → number_found (find_train t p.world.trains) ≡ last_number t s
-  number_is t = ap (λ (x : Option WorldTrain). number_found x) (k.trains t) ∙ number_of_world t (facts_of t s) _ _ _ _ (last_number t s) (no_number line t s (invariant t))
+  number_is t = ap (λ (x : Option WorldTrain). number_found x) (k.trains t) ∙ number_of_world t (facts_of t s) _ _ _ _ (onboard_of line t s) (no_number line t s (invariant t))
+
+  pub taken_is : (t : ℕ) → is_declared t s ≡ true → taken_found (find_train t p.world.trains) ≡ last_taken line t s
+  taken_is t d = ap (λ (x : Option WorldTrain). taken_found x) (k.trains t) ∙ taken_of_world t (facts_of t s) _ _ _ _ (onboard_of line t s) d
 
   pub room_is : (t : ℕ) → is_declared t s ≡ true → room_found (find_train t p.world.trains) ≡ limit_place line t s - head t s
-  room_is t d = ap (λ (x : Option WorldTrain). room_found x) (k.trains t) ∙ room_of_world t (facts_of t s) _ _ _ (limit_place line t s - head t s) _ d
+  room_is t d = ap (λ (x : Option WorldTrain). room_found x) (k.trains t) ∙ room_of_world t (facts_of t s) _ _ _ _ (onboard_of line t s) d
 
   pub error_is : (t : ℕ) → error_found (find_train t p.world.trains) ≡ error_of t s
   error_is t = ap (λ (x : Option WorldTrain). error_found x) (k.trains t) ∙ error_of_world t (facts_of t s) _ _ _ _ _

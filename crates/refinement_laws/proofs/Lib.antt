@@ -4,7 +4,14 @@ pub mod Way_of
 pub mod Facts_is
 pub mod Way_now
 pub mod Premise_now
-pub mod Head_on
+pub mod Train_made
+pub mod Pace_now
+pub mod Closed_now
+pub mod Order_true
+pub mod Kept_story
+pub mod Decides_now
+pub mod Same_place
+pub mod Accepts_now
 pub mod Acts_on_sent
 pub mod Zone_kept
 pub mod World_controls

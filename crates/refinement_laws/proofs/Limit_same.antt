@@ -10,10 +10,10 @@ use Rattle.definitions.specs.Track.{Line, seg_len, last_step, led}
 use Rattle.definitions.specs.Rules.{is_line}
 use Rattle.definitions.specs.Premises.{on_line}
 use Rattle.definitions.specs.Story.{Transition, Story, ever}
-use Rattle.definitions.specs.World.{first_entry, enters, entered, moved, head, journey, limit_held, limit_place, last_number}
+use Rattle.definitions.specs.World.{first_entry, enters, entered, moved, head, journey, limit_held, limit_place, last_number, last_taken}
 use Rattle.definitions.specs.Longest.{longest_route}
 use Rattle.plain_state.specs.World.{moved_on}
-use Rattle.plain_state.specs.Refinement.{head_of}
+use Rattle.plain_state.specs.Refinement.{head_of, pace_of}
 use Rattle.way_laws.proofs.Cut_front.{cut_all}
 use Rattle.event_laws.proofs.Facts_stay.{entered_stays}
 use Rattle.motion_laws.proofs.Motion.{Motion, head_next}
@@ -65,12 +65,32 @@ limit_same line t x s invariant after on heads last =
     ∙ sym ((invariant.authorized.limit on).number)))
 
 -- a train that has not come on holds no limit
-pub off_limit : (t : ℕ) (s : Story) → entered t s ≡ false → limit_held t s ≡ None
+pub off_limit : (line : Line) (t : ℕ) (s : Story) → entered t s ≡ false → limit_held line t s ≡ None
 unfolding ever limit_held
-off_limit t [] off = refl
-off_limit t (e ∷ s) off = by_test (enters t e.event)
+off_limit line t [] off = refl
+off_limit line t (e ∷ s) off = by_test (enters t e.event)
     (λ a. absurd (let b : true ≡ false = rw a at off in cc))
-    (λ a. let before : entered t s ≡ false = rw a at off in rw (a, before) (off_limit t s before))
+    (λ a. let before : entered t s ≡ false = rw a at off in rw (a, before) (off_limit line t s before))
+
+-- nor has it taken a further number
+pub off_taken : (line : Line) (t : ℕ) (s : Story) → entered t s ≡ false → last_taken line t s ≡ false
+unfolding ever last_taken
+off_taken line t [] off = refl
+off_taken line t (e ∷ s) off = by_test (enters t e.event)
+    (λ a. absurd (let b : true ≡ false = rw a at off in cc))
+    (λ a. let before : entered t s ≡ false = rw a at off in rw (a, before) (off_taken line t s before))
+
+-- nor has it moved
+pub off_pace : (t : ℕ) (s : Story) → entered t s ≡ false → head t s ≡ 0 → pace_of t s ≡ record { speed = 0; at = 0 }
+unfolding ever head pace_of
+off_pace t [] off none = refl
+off_pace t (e ∷ s) off none = by_test (enters t e.event)
+    (λ a. absurd (let b : true ≡ false = rw a at off in cc))
+    (λ a.
+    let before : entered t s ≡ false = rw a at off in
+    let sum : head t s + moved t e.event ≡ 0 = rw a at none in
+    let still : moved t e.event ≡ 0 = omega (arith, sum) in
+    rw still (off_pace t s before (omega (arith, sum))))
 
 -- a train that comes on is at its length, on its first step
 pub head_at_length : (line : Line) (step : DirSeg) (long : ℕ) → long ≤ seg_len line step.seg.0 → head_at (seg_len line) (step ∷ []) long ≡ Some (record { step = step; mark = 0; offset = long })

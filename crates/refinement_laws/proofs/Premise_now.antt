@@ -1,9 +1,9 @@
 -- An event is built, within the limit on trains and keeps its premises by the plain state exactly where it does by the story.
-use Rattle.std.proofs.Common.{◌≡◌, ℕ, ◌+◌, ◌-◌, ◌≤◌, List, length, Option, Some, None, Bool, true, false, ◌&&◌, ◌||◌, refl, sym, ◌∙◌, ap, arith, not, if◌then◌else◌}
+use Rattle.std.proofs.Common.{◌≡◌, ℕ, ◌+◌, ◌-◌, ◌≤◌, List, length, Option, Bool, true, false, ◌&&◌, ◌||◌, refl, sym, ◌∙◌, ap, arith, not, if◌then◌else◌}
 use Rattle.std.proofs.lemmas.Bool.Decides.{nat_tests}
 use Rattle.std.proofs.Math.Bool.{and-true}
 use Rattle.std.proofs.Math.Path.{fun_ext}
-use Rattle.std.specs.Prelude.{ℤ, pos, ◌-ℤ◌, nat_eq, nat_le, nat_lt, is_some}
+use Rattle.std.specs.Prelude.{ℤ, pos, ◌-ℤ◌, nat_eq, nat_le, nat_lt}
 use Rattle.std.specs.List.{list_all}
 use Rattle.std.specs.Int.Signed.{le_z}
 use Rattle.list_laws.proofs.By_test.{by_test}
@@ -18,20 +18,15 @@ use Rattle.definitions.specs.Track.{Line, ranged, has_zone, begins_at_portal, la
 use Rattle.definitions.specs.Numbers.{least}
 use Rattle.definitions.specs.Premises.{is_equipped, on_line, known_train, ascending, built, too_many, off_by, head_offset, reports_rightly, can_move, moves_rightly, may_move, stops_rightly, same_portal, enters_rightly, takes_rightly, premise_of}
 use Rattle.definitions.specs.Story.{Story}
-use Rattle.definitions.specs.World.{error_of, entered, head, journey, limit_place, HeldPath, entry_authority}
-use Rattle.definitions.specs.Steps.{sender_of}
+use Rattle.definitions.specs.World.{error_of, entered, head, journey, limit_place}
 use Rattle.definitions.specs.Safe.{IsLineOfOneZone}
 use Rattle.plain_state.specs.declared.Head.{Head}
-use Rattle.plain_state.specs.World.{find_train, authority_found, error_found}
+use Rattle.plain_state.specs.World.{find_train, authorized_found, error_found}
 use Rattle.plain_state.specs.Plain.{Plain}
 use Rattle.plain_state.specs.Admits.{is_known, plain_built, plain_too_many, reports_head, world_reports, can_move_found, world_moves, may_move_found, world_stops, world_enters, hears_noise, plain_takes, plain_premise}
 use Rattle.plain_state.specs.Refinement.{head_of, Refines}
 use Rattle.invariant_laws.proofs.Invariant.{Invariant}
-use Rattle.refinement_laws.proofs.Facts_is.{declared_is, entry_is, authority_is, head_is, on_is, room_is, error_is, speed_is}
-
-sender_some : (a : Option HeldPath) → is_some (sender_of a) ≡ is_some a
-sender_some None = refl
-sender_some (Some a) = refl
+use Rattle.refinement_laws.proofs.Facts_is.{declared_is, entry_is, authorized_is, head_is, on_is, room_is, error_is, speed_is}
 
 module _ (line : Line) (s : Story) (p : Plain) (k : Refines line s p) (invariant : (t : ℕ) → Invariant line t s) where
   known_now : (x : TrainId × ℕ) → known_train s x ≡ is_known p x
@@ -90,8 +85,8 @@ module _ (line : Line) (s : Story) (p : Plain) (k : Refines line s p) (invariant
   enters_now : (e : Event) → enters_rightly s e ≡ world_enters p.world e
   enters_now (Entry u step) = ap (λ (x : Option DirSeg). same_portal step x) (sym (entry_is line s p k invariant u.0))
   enters_now (Enter u) =
-      ap (λ (b : Bool). b && not (entered u.0 s)) (sym (sender_some (entry_authority u.0 s)) ∙ ap (λ (x : Option ℕ). is_some x) (sym (authority_is line s p k invariant u.0)))
-      ∙ ap (λ (b : Bool). is_some (authority_found (find_train u.0 p.world.trains)) && not b) (sym (on_is line s p k invariant u.0))
+      ap (λ (b : Bool). b && not (entered u.0 s)) (sym (authorized_is line s p k invariant u.0))
+      ∙ ap (λ (b : Bool). authorized_found (find_train u.0 p.world.trains) && not b) (sym (on_is line s p k invariant u.0))
   enters_now _ = refl
 
   module _ (l : IsLineOfOneZone line) where

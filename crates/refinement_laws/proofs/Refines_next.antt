@@ -19,10 +19,10 @@ use Rattle.plain_state.specs.Refinement.{Refines}
 use Rattle.event_laws.proofs.Issued_all.{AllIn, AllIssued}
 use Rattle.event_laws.proofs.Admitted.{admitted}
 use Rattle.fit_laws.proofs.Fits_story.{all_fit, fits_story}
-use Rattle.motion_laws.proofs.Timed_story.{timed_story}
 use Rattle.invariant_laws.proofs.Invariant.{Invariant}
 use Rattle.refinement_laws.proofs.Premise_now.{built_now, too_many_now, premise_now}
 use Rattle.refinement_laws.proofs.The_zone.{the_zone}
+use Rattle.refinement_laws.proofs.Kept_story.{kept_story}
 use Rattle.refinement_laws.proofs.Envelope_now.{envelope_now}
 use Rattle.refinement_laws.proofs.Refines_step.{effect_now, refines_step}
 
@@ -57,14 +57,14 @@ sound_behind line es e k h invariant t = invariant t (e ∷ es) (h, k)
 pub effect_is : (line : Line) (es : List Event) (p : Plain) (e : Event) → IsLineOfOneZone line → length es < 100000000 → Kept line es → admits line (story_of line es) e ≡ true → Refines line (story_of line es) p → AllInvariant line
     → ((effects line (story_of line es) e).issued ≡ (plain_effect line p e).issued) × ((effects line (story_of line es) e).lines ≡ (plain_effect line p e).lines)
 effect_is line es p e one short k h refines invariant =
-    let same = effect_now line (story_of line es) p one (story_short line es short) refines (λ t. invariant t es k) e (admitted line (story_of line es) e h) (sound_behind line es e k h invariant) in
+    let same = effect_now line (story_of line es) p one (story_short line es short) refines (λ t. invariant t es k) (kept_story line es k) e (admitted line (story_of line es) e h) (sound_behind line es e k h invariant) in
     (ap (λ (x : Effect). x.issued) same, ap (λ (x : Effect). x.lines) same)
 
 pub refines_next : (line : Line) (es : List Event) (p : Plain) (e : Event) → IsLineOfOneZone line → length es < 100000000 → Kept line es → admits line (story_of line es) e ≡ true → Refines line (story_of line es) p → AllInvariant line
     → Refines line (story_of line (e ∷ es)) (plain_next line p e)
 unfolding story_of
 refines_next line es p e one short k h refines invariant =
-    refines_step line (story_of line es) p e one (story_short line es short) (admitted line (story_of line es) e h) (timed_story line es k) refines (λ t. invariant t es k) (sound_behind line es e k h invariant)
+    refines_step line (story_of line es) p e one (story_short line es short) (admitted line (story_of line es) e h) (kept_story line es k) refines (λ t. invariant t es k) (sound_behind line es e k h invariant)
 
 -- a message on a link is in its ranges
 pub link_fits : (line : Line) (es : List Event) (p : Plain) (from to j : ℕ) (m : Msg) → IsLineOfOneZone line → Kept line es → length es ≤ 10000000 → Refines line (story_of line es) p → is_link line to from ≡ true → slice_get (p.links from to) j ≡ Some m → Fits m

@@ -16,9 +16,9 @@ use Rattle.definitions.specs.Longest.{counted, longest_end, longest_route}
 use Rattle.definitions.specs.Fronts.{report_time, silent_by}
 use Rattle.definitions.specs.Authority.{way, holder_of}
 use Rattle.definitions.specs.Limit.{Reach, path_of, reach_from, barring, limit}
-use Rattle.definitions.specs.Steps.{Effect, nothing, enter_or_held, zone_entry, zone_ask, zone_time, zone_takes}
+use Rattle.definitions.specs.Steps.{Effect, nothing, enter_or_held, zone_entry, zone_ask, zone_time, zone_order, zone_takes}
 use Rattle.definitions.specs.Safe.{IsLineOfOneZone}
-use Rattle.event_laws.proofs.Zone_issues.{report_none}
+use Rattle.event_laws.proofs.Zone_issues.{report_none, order_none}
 use Rattle.plain_state.specs.declared.Controlled.{Controlled}
 use Rattle.plain_state.specs.Zone.{find_controlled, change_controlled, full, holder_plain, lengthened, entered_or, train_at_entry, trains_entered, trains_asked, uses_mark, reported_by, trains_acted_on}
 use Rattle.definitions.specs.Zones.{zone_id}
@@ -28,7 +28,7 @@ use Rattle.event_laws.proofs.Issued_all.{NoAuth, no_issue}
 use Rattle.event_laws.proofs.Controls_same.{controls_knows}
 use Rattle.invariant_laws.proofs.Invariant.{Invariant}
 use Rattle.plain_state.proofs.Found_changed.{ids_change, distinct_change}
-use Rattle.refinement_laws.proofs.Way_now.{Grown, known_now, full_now, holder_now, reach_now}
+use Rattle.refinement_laws.proofs.Way_now.{Grown, Shut, known_now, full_now, holder_now, reach_now}
 use Rattle.refinement_laws.proofs.Way_of.{way_of}
 use Rattle.refinement_laws.proofs.Facts_is.{no_way}
 use Rattle.refinement_laws.proofs.Zone_moves.{zone_made, zone_heads, ZoneMoves}
@@ -42,7 +42,7 @@ use Rattle.refinement_laws.proofs.Answer_now.{answered_moves}
 abbrev pub issuing : Effect → List Outcome → Effect
 issuing e lines = record { issued = e.issued; lines = lines }
 
-module _ (line : Line) (z number : ℕ) (s : Story) (p : Plain) (one : IsLineOfOneZone line) (zone : suc z ≡ zone_id line) (k : Refines line s p) (invariant : (t : ℕ) → Invariant line t s) (lines : List Outcome) where
+module _ (line : Line) (z number : ℕ) (s : Story) (p : Plain) (one : IsLineOfOneZone line) (zone : suc z ≡ zone_id line) (k : Refines line s p) (invariant : (t : ℕ) → Invariant line t s) (lines : List Outcome) (closed : List Bool) (shut : Shut line s closed) where
   abbrev AfterAll : Msg → Effect → Type 0
   AfterAll m e = (t : ℕ) → Invariant line t (zone_made z number m (issuing e lines) ∷ s)
 
@@ -79,7 +79,7 @@ module _ (line : Line) (z number : ℕ) (s : Story) (p : Plain) (one : IsLineOfO
         (λ y. rw y (refused nothing refl (λ t. rw y at (after t))))
         (λ n. rw n (by_holder fresh n holder (λ t. rw n at (after t))))
 
-    pub entry_moves : AfterAll entry_m (zone_takes line (zone_id line) 0 s entry_m) → Moves entry_m (zone_takes line (zone_id line) 0 s entry_m) (trains_acted_on line (zone_id line) (now_with (zone_id line) s entry_m) ways entry_m)
+    pub entry_moves : AfterAll entry_m (zone_takes line (zone_id line) 0 s entry_m) → Moves entry_m (zone_takes line (zone_id line) 0 s entry_m) (trains_acted_on line (zone_id line) (now_with (zone_id line) s entry_m) ways closed entry_m)
     entry_moves after =
         let n = now_with (zone_id line) s entry_m in
         let z0 = zone_id line in
@@ -126,22 +126,22 @@ module _ (line : Line) (z number : ℕ) (s : Story) (p : Plain) (one : IsLineOfO
         (λ n. granted c n now_after)) after)
         (λ o. absurd (let x : None ≡ Some w = sym (no_way line (zone_id line) u.0 s o) ∙ is in cc))
 
-    pub asking_moves : AfterAll ask_m (zone_takes line (zone_id line) 0 s ask_m) → Moves ask_m (zone_takes line (zone_id line) 0 s ask_m) (trains_acted_on line (zone_id line) (now_with (zone_id line) s ask_m) ways ask_m)
+    pub asking_moves : AfterAll ask_m (zone_takes line (zone_id line) 0 s ask_m) → Moves ask_m (zone_takes line (zone_id line) 0 s ask_m) (trains_acted_on line (zone_id line) (now_with (zone_id line) s ask_m) ways closed ask_m)
     asking_moves after =
-        subst (λ (r : Reach). Moves ask_m (zone_takes line (zone_id line) 0 s ask_m) (trains_asked (seg_len line) u.0 steps.items r ways)) (sym (reach_now line s one.valid invariant (now_with (zone_id line) s ask_m) ways g u.0 steps.items to (now_with (zone_id line) s ask_m)))
+        subst (λ (r : Reach). Moves ask_m (zone_takes line (zone_id line) 0 s ask_m) (trains_asked (seg_len line) u.0 steps.items r ways)) (sym (reach_now line s one.valid invariant (now_with (zone_id line) s ask_m) ways g u.0 steps.items to (now_with (zone_id line) s ask_m) closed shut))
         (ask_by (way line (zone_id line) u.0 s) refl after)
 
   -- A report, the time, and what does nothing.
 
   pub take_moves : (m : Msg) (ways : List Controlled) → Grown line s (now_with (zone_id line) s m) ways → AfterAll m (zone_takes line (zone_id line) 0 s m)
-      → Moves m (zone_takes line (zone_id line) 0 s m) (trains_acted_on line (zone_id line) (now_with (zone_id line) s m) ways m)
+      → Moves m (zone_takes line (zone_id line) 0 s m) (trains_acted_on line (zone_id line) (now_with (zone_id line) s m) ways closed m)
   take_moves (msg.EntryAsk u time long error speed equipped step) ways g after = entry_moves u time long error speed equipped step ways g after
   take_moves (msg.Ask u time steps to) ways g after = asking_moves u time steps to ways g after
   take_moves (msg.Report u time mark offset integrity) ways g after =
       let m = msg.Report u time mark offset integrity in
       let e = issuing (zone_takes line (zone_id line) 0 s m) lines in
       let silent : (v : ℕ) → NoAuth v e.issued = λ v. no_issue v e.issued (report_none line (zone_id line) s u m) in
-      stay_moves line (zone_made z number m e) s p (trains_acted_on line (zone_id line) (now_with (zone_id line) s m) ways m) one k invariant after
+      stay_moves line (zone_made z number m e) s p (trains_acted_on line (zone_id line) (now_with (zone_id line) s m) ways closed m) one k invariant after
       (silent_stays line (zone_made z number m e) s invariant after (λ v. zone_heads v z number m e s) silent)
       (report_found line z number u time mark offset integrity s one zone invariant ways g e silent after)
       (by_test (uses_mark (find_controlled u.0 ways) mark)
@@ -167,4 +167,6 @@ module _ (line : Line) (z number : ℕ) (s : Story) (p : Plain) (one : IsLineOfO
           (λ y. rw y (again_moves line z number time u s one zone invariant c lines (λ t. rw y at (later t)) p ways k g))
           (λ n. rw n (quiet (λ t. rw n at (later t))))) now_after
   take_moves (msg.Answer u time n taken) ways g after = answered_moves line z number u time n taken (issuing nothing lines) s one zone invariant after (λ v. no_issue v [] refl) p ways k g
+  take_moves (msg.Order time order) ways g after =
+      quiet_moves line z number (msg.Order time order) (issuing (zone_order (zone_id line) order) lines) s p ways one zone k invariant after g (λ v. no_issue v (zone_order (zone_id line) order).issued (order_none (zone_id line) order)) (λ v. refl) (λ v. refl)
   take_moves m ways g after = quiet_moves line z number m (issuing nothing lines) s p ways one zone k invariant after g (λ v. no_issue v [] refl) (λ v. refl) (λ v. refl)

@@ -6,7 +6,7 @@ use Rattle.std.specs.Prelude.{nat_eq}
 use Rattle.std.specs.List.{list_any}
 use Rattle.list_laws.proofs.By_test.{by_test}
 use Rattle.definitions.specs.declared.item.Item.{Item}
-use Rattle.definitions.specs.declared.item.Item.TheVariants.{Zone, Segment, Joint, Portal, Buffer, Silent}
+use Rattle.definitions.specs.declared.item.Item.TheVariants.{Zone, Segment, Joint, Portal, Buffer, Brake, Silent}
 use Rattle.definitions.specs.Track.{Line, has_zone, is_actor}
 use Rattle.definitions.specs.Story.{Story}
 use Rattle.definitions.specs.Numbers.{least}
@@ -32,6 +32,7 @@ zone_above (Segment r z len ∷ items) before b h = zone_above items (before ++ 
 zone_above (Joint x y ∷ items) before b h = zone_above items (before ++ Joint x y ∷ []) (and_parts (nat_eq (rule_of before (Joint x y)) 0) _ b).1 h
 zone_above (Portal x ∷ items) before b h = zone_above items (before ++ Portal x ∷ []) (and_parts (nat_eq (rule_of before (Portal x)) 0) _ b).1 h
 zone_above (Buffer x ∷ items) before b h = zone_above items (before ++ Buffer x ∷ []) (and_parts (nat_eq (rule_of before (Buffer x)) 0) _ b).1 h
+zone_above (Brake ticks runaway rate ∷ items) before b h = zone_above items (before ++ Brake ticks runaway rate ∷ []) (and_parts (nat_eq (rule_of before (Brake ticks runaway rate)) 0) _ b).1 h
 zone_above (Silent ms ∷ items) before b h = zone_above items (before ++ Silent ms ∷ []) (and_parts (nat_eq (rule_of before (Silent ms)) 0) _ b).1 h
 
 some_zone : (line : Line) → finish_rule line ≡ 0 → list_any is_any_zone line ≡ true
@@ -58,6 +59,7 @@ zone_there (Segment r z len ∷ items) h = zone_there items h
 zone_there (Joint x y ∷ items) h = zone_there items h
 zone_there (Portal x ∷ items) h = zone_there items h
 zone_there (Buffer x ∷ items) h = zone_there items h
+zone_there (Brake ticks runaway rate ∷ items) h = zone_there items h
 zone_there (Silent ms ∷ items) h = zone_there items h
 
 pub zone_declared_there : (line : Line) → IsLineOfOneZone line → has_zone line (zone_id line) ≡ true

@@ -6,18 +6,19 @@ use Rattle.std.specs.List.{list_any}
 use Rattle.list_laws.proofs.By_test.{by_test}
 use Rattle.track_points.specs.declared.ids.DirSeg.{DirSeg}
 use Rattle.track_points.specs.Points.{Point, Cell, some_below, path_has}
-use Rattle.definitions.specs.Track.{Line, seg_len, layout, owner}
+use Rattle.definitions.specs.Track.{Line, seg_len, layout, owner, zone_of}
 use Rattle.definitions.specs.Rules.{is_line}
 use Rattle.definitions.specs.Ways.{PlainWay}
 use Rattle.definitions.specs.Story.{Story}
 use Rattle.definitions.specs.Control.{controls, knows, knows_most, known_trains, last_issued}
 use Rattle.definitions.specs.Longest.{counted}
 use Rattle.definitions.specs.Fronts.{report_time, silent_by}
-use Rattle.definitions.specs.Authority.{way, way_has, held, least_of, holder_of}
-use Rattle.definitions.specs.Limit.{reach_from, path_of, barring, limit}
+use Rattle.definitions.specs.Authority.{way, way_has, held, held_else, least_of, holder_of}
+use Rattle.definitions.specs.Closures.{is_closed}
+use Rattle.definitions.specs.Limit.{Bars, reach_from, path_of, barring, limit}
 use Rattle.way_path.specs.Ways.{plain_way}
 use Rattle.plain_state.specs.declared.Controlled.{Controlled}
-use Rattle.plain_state.specs.Zone.{PlainZone, find_controlled, way_found, path_found, last_found, ready_found, silent_found, full, train_on, barring_plain, holder_plain, reach_plain, grown_train}
+use Rattle.plain_state.specs.Zone.{PlainZone, find_controlled, way_found, path_found, last_found, ready_found, silent_found, full, train_on, held_else_plain, closed_at, barring_plain, holder_plain, reach_plain, grown_train}
 use Rattle.definitions.specs.Zones.{zone_id}
 use Rattle.plain_state.specs.Refinement.{ids, Distinct, zone_train_of, zone_train, ZoneRefines}
 use Rattle.event_laws.proofs.Controls_same.{controls_knows}
@@ -38,6 +39,10 @@ grown_of line s y clock k = record {
   distinct = distinct_mapped (grown_train clock) y.trains (λ x. refl) k.distinct;
 }
 
+-- the closed segments that a zone keeps are those of its own that the story tells
+abbrev pub Shut : Line → Story → List Bool → Type 0
+Shut line s closed = (seg : ℕ) → nat_eq (zone_of line seg) (zone_id line) ≡ true → closed_at closed seg ≡ is_closed (zone_id line) seg s
+
 -- What is found of a train of the zone.
 module _ (line : Line) (t : ℕ) (s : Story) (clock : ℕ) where
   abbrev train_by : Option PlainWay → Option Controlled
@@ -55,11 +60,11 @@ module _ (line : Line) (t : ℕ) (s : Story) (clock : ℕ) where
   some_by None = refl
   some_by (Some w) = refl
 
-  reach_by : (w : Option PlainWay) (asked : List DirSeg) (to : ℕ) (now_ : ℕ) (held_ : Point → Bool)
-      → reach_from line (ready_found (train_by w)) (silent_found line now_ (train_by w)) (path_found (train_by w)) asked to held_
-      ≡ reach_from line (is_some w && nat_lt 0 (counted line t s)) (silent_by line (report_time line (zone_id line) t s) now_) (path_of w) asked to held_
-  reach_by None asked to now_ held_ = refl
-  reach_by (Some w) asked to now_ held_ = refl
+  reach_by : (w : Option PlainWay) (asked : List DirSeg) (to : ℕ) (now_ : ℕ) (bars : Bars)
+      → reach_from line (ready_found (train_by w)) (silent_found line now_ (train_by w)) (path_found (train_by w)) asked to bars
+      ≡ reach_from line (is_some w && nat_lt 0 (counted line t s)) (silent_by line (report_time line (zone_id line) t s) now_) (path_of w) asked to bars
+  reach_by None asked to now_ bars = refl
+  reach_by (Some w) asked to now_ bars = refl
 
   id_by : (w : Option PlainWay) (x : Controlled) → train_by w ≡ Some x → x.id.0 ≡ t
   id_by None x e = absurd cc
@@ -92,8 +97,8 @@ module _ (line : Line) (s : Story) (valid : is_line line ≡ true) (invariant : 
   pub found_id : (t : ℕ) (x : Controlled) → find_controlled t ways ≡ Some x → x.id.0 ≡ t
   found_id t x found = id_by line t s clock (way line (zone_id line) t s) x (sym (g.found t) ∙ found)
 
-  barring_now : (t : ℕ) (point : Point) → barring_plain line (zone_id line) ways t point ≡ barring line (zone_id line) t s point
-  barring_now t point = by_test (nat_eq (owner line point) (zone_id line))
+  held_now : (t : ℕ) (point : Point) → (nat_eq (owner line point) (zone_id line) && held_else_plain (layout line) ways t point) ≡ (nat_eq (owner line point) (zone_id line) && held_else line (zone_id line) t s point)
+  held_now t point = by_test (nat_eq (owner line point) (zone_id line))
       (λ own.
       let f : Controlled → Bool = λ x. not (nat_eq x.id.0 t) && path_has (layout line) x.way.path point in
       let k : ℕ → Bool = λ u. not (nat_eq u t) && held line (zone_id line) u s point in
@@ -111,12 +116,26 @@ module _ (line : Line) (s : Story) (valid : is_line line ≡ true) (invariant : 
       ap (λ (test : ℕ → Bool). some_below test (seg_len line seg)) (fun_ext (λ mm. sym (held_found u x (Cell seg mm) found))))
       ∙ ap (λ (xs : List ℕ). least_of k xs) g.known
 
-  pub reach_now : (t : ℕ) (asked : List DirSeg) (to now_ : ℕ) → reach_plain line (zone_id line) now_ ways t asked to ≡ limit line (zone_id line) t s now_ asked to
-  reach_now t asked to now_ =
+  -- what bars an ask: the points that are held for another train, and the closed segments
+  barring_now : (t : ℕ) (closed : List Bool) → Shut line s closed → barring_plain line (zone_id line) ways closed t ≡ barring line (zone_id line) t s
+  barring_now t closed shut =
       let z = zone_id line in
-      let held_same : barring_plain line z ways t ≡ barring line z t s = fun_ext (λ point. barring_now t point) in
+      ap (λ (test : Point → Bool). bars_of test (λ seg. nat_eq (zone_of line seg) z && closed_at closed seg)) (fun_ext (λ point. held_now t point))
+      ∙ ap (λ (test : ℕ → Bool). bars_of (barring line z t s).held test) (fun_ext closed_now)
+    where
+      bars_of : (Point → Bool) → (ℕ → Bool) → Bars
+      bars_of held_ closed_ = record { held = held_; closed = closed_ }
+
+      closed_now : (seg : ℕ) → (nat_eq (zone_of line seg) (zone_id line) && closed_at closed seg) ≡ (nat_eq (zone_of line seg) (zone_id line) && is_closed (zone_id line) seg s)
+      closed_now seg = by_test (nat_eq (zone_of line seg) (zone_id line))
+          (λ own. ap (λ (b : Bool). nat_eq (zone_of line seg) (zone_id line) && b) (shut seg own))
+          (λ away. rw away refl)
+
+  pub reach_now : (t : ℕ) (asked : List DirSeg) (to now_ : ℕ) (closed : List Bool) → Shut line s closed → reach_plain line (zone_id line) now_ ways closed t asked to ≡ limit line (zone_id line) t s now_ asked to
+  reach_now t asked to now_ closed shut =
+      let z = zone_id line in
       let w = way line z t s in
-      ap (λ (x : Option Controlled). reach_from line (ready_found x) (silent_found line now_ x) (path_found x) asked to (barring_plain line z ways t)) (g.found t)
-      ∙ (reach_by line t s clock w asked to now_ (barring_plain line z ways t)
-      ∙ (ap (λ (b : Bool). reach_from line (b && nat_lt 0 (counted line t s)) (silent_by line (report_time line z t s) now_) (path_of w) asked to (barring_plain line z ways t)) (way_is_known line z t s)
-      ∙ ap (λ (test : Point → Bool). reach_from line (controls z t s && nat_lt 0 (counted line t s)) (silent_by line (report_time line z t s) now_) (path_of w) asked to test) held_same))
+      ap (λ (x : Option Controlled). reach_from line (ready_found x) (silent_found line now_ x) (path_found x) asked to (barring_plain line z ways closed t)) (g.found t)
+      ∙ (reach_by line t s clock w asked to now_ (barring_plain line z ways closed t)
+      ∙ (ap (λ (b : Bool). reach_from line (b && nat_lt 0 (counted line t s)) (silent_by line (report_time line z t s) now_) (path_of w) asked to (barring_plain line z ways closed t)) (way_is_known line z t s)
+      ∙ ap (λ (bars : Bars). reach_from line (controls z t s && nat_lt 0 (counted line t s)) (silent_by line (report_time line z t s) now_) (path_of w) asked to bars) (barring_now t closed shut)))

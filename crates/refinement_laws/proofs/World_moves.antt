@@ -22,12 +22,14 @@ use Rattle.refinement_laws.proofs.The_zone.{the_zone, each_zone}
 use Rattle.event_laws.proofs.Last_quiet.{last_quiet}
 use Rattle.refinement_laws.proofs.Holds_are.{fronts_are, holds_are}
 use Rattle.event_laws.proofs.Issued_all.{NoAuth}
-use Rattle.refinement_laws.proofs.Zone_idle.{known_idle, now_still, zone_idle}
+use Rattle.refinement_laws.proofs.Zone_idle.{idle, known_idle, now_still, zone_idle}
+use Rattle.refinement_laws.proofs.Train_made.{pace_still, taken_none}
+use Rattle.refinement_laws.proofs.Closed_now.{closed_idle}
 
 pub world_same : (line : Line) (t : ℕ) (x : Transition) (s : Story) → StillWorld t x → world_train line t (x ∷ s) ≡ world_train line t s
 world_same line t x s h =
     let j = journey_still line t x s (rw (h.entry, h.off, h.still) refl) in
-    rw (j, facts_still t x s h.facts, entry_still t x s h.entry, authority_still t x s h.taken, entered_same t x s h.off, head_same t x s h.off h.still, limit_still t x s h.off h.taken, last_still t x s h.off h.taken) refl
+    rw (j, facts_still t x s h.facts, entry_still t x s h.entry, authority_still t x s h.taken, entered_same t x s h.off, head_same t x s h.off h.still, limit_still line t x s h.off h.taken, last_still t x s h.off h.taken, pace_still t x s h.still, taken_none line t x s h.off h.taken) refl
 
 -- what an actor's step puts onto its links
 pub posted_sent : (actor from to : ℕ) (x : Transition) (s : Story) (y : Effect) (links : ℕ → ℕ → List Msg) → x.actor ≡ actor → y.issued ≡ x.issued → links from to ≡ sent from to s → posted actor y links from to ≡ sent from to (x ∷ s)
@@ -64,13 +66,16 @@ zone_stays line s z x one k world silent heads invariant after =
       holds = λ t point. ap (λ (n : ℕ). hold_has line n (find_controlled t z.trains) point) k.id ∙ holds_are line (x ∷ s) one.valid z.trains ways after t point;
       known = k.known ∙ sym (known_idle line x s one world);
       distinct = k.distinct;
+      segments = k.segments;
+      closed = λ seg own. k.closed seg own ∙ sym (closed_idle (zone_id line) seg x s (idle line x s one world));
       marks = λ t w found. let a = k.marks t w found in omega (arith, a);
     }
 
 pub world_refined : (line : Line) (s : Story) (p : Plain) (x : Transition) (ms : ℕ) (trains : List WorldTrain) (y : Effect) → IsLineOfOneZone line → Refines line s p → WorldMoves line s x ms trains
-    → ((t : ℕ) → Invariant line t s) → ((t : ℕ) → Invariant line t (x ∷ s)) → y.issued ≡ x.issued → Refines line (x ∷ s) (world_next p (record { clock = ms; trains = trains }) y)
+    → ((t : ℕ) → Invariant line t s) → ((t : ℕ) → Invariant line t (x ∷ s)) → y.issued ≡ x.issued → Refines line (x ∷ s) (world_next p (record { brake = p.world.brake; clock = ms; trains = trains }) y)
 world_refined line s p x ms trains y one k m invariant after is =
     record {
+      brake = k.brake;
       time = m.time;
       trains = m.found;
       count = m.count;

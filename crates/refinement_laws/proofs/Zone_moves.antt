@@ -1,5 +1,5 @@
 -- What a transition of the zone leaves of the plain state.
-use Rattle.std.proofs.Common.{◌≡◌, ℕ, suc, ◌+◌, ◌-◌, ◌*◌, ◌≤◌, max, List, ◌∷◌, length, true, refl, sym, ◌∙◌, ap, subst, arith}
+use Rattle.std.proofs.Common.{◌≡◌, ℕ, suc, ◌+◌, ◌-◌, ◌*◌, ◌≤◌, max, List, ◌∷◌, length, Some, Bool, true, refl, sym, ◌∙◌, ap, subst, arith}
 use Rattle.std.proofs.lemmas.Bool.Decides.{nat_tests}
 use Rattle.std.specs.Prelude.{nat_eq}
 use Rattle.track_points.specs.Points.{steps_to}
@@ -9,11 +9,12 @@ use Rattle.definitions.specs.Story.{Transition, Story, greatest_in, greatest_iss
 use Rattle.definitions.specs.World.{auth_number, head}
 use Rattle.definitions.specs.Control.{known_trains, message_time, last_issued, controls, known_facts}
 use Rattle.definitions.specs.Account.{with_at}
+use Rattle.definitions.specs.Closures.{closed_after}
 use Rattle.definitions.specs.Longest.{longest_end, longest_route}
 use Rattle.definitions.specs.Steps.{Effect}
 use Rattle.definitions.specs.Safe.{IsLineOfOneZone}
 use Rattle.plain_state.specs.declared.Controlled.{Controlled}
-use Rattle.plain_state.specs.Zone.{PlainZone, find_controlled, hold_has, clock_after}
+use Rattle.plain_state.specs.Zone.{PlainZone, find_controlled, hold_has, clock_after, closed_acted_on}
 use Rattle.definitions.specs.Zones.{zone_id}
 use Rattle.plain_state.specs.Plain.{Plain, by_zone as zone_next}
 use Rattle.plain_state.specs.Refinement.{zone_train, ids, Distinct, ZoneRefines, Refines}
@@ -21,6 +22,7 @@ use Rattle.event_laws.proofs.Still_world.{head_still, unasked_same, off_same, au
 use Rattle.invariant_laws.proofs.Invariant.{Invariant}
 use Rattle.event_laws.proofs.Controls_same.{now_acted}
 use Rattle.refinement_laws.proofs.The_zone.{the_zone, each_zone}
+use Rattle.refinement_laws.proofs.Closed_now.{OrderPlaced, acted_length, acted_at, closed_next}
 use Rattle.refinement_laws.proofs.Way_of.{way_of}
 use Rattle.refinement_laws.proofs.Mark_is.{way_number}
 use Rattle.refinement_laws.proofs.Holds_are.{found_controls, found_kept, fronts_are, holds_are}
@@ -49,8 +51,8 @@ last_next t x s h k = omega (arith, h, k)
 
 -- the zone after it
 zone_moved : (line : Line) (z number : ℕ) (m : Msg) (e : Effect) (s : Story) (y : PlainZone) (trains : List Controlled) → IsLineOfOneZone line → suc z ≡ zone_id line → ZoneRefines line (zone_id line) s y → ZoneMoves line s (zone_made z number m e) trains
-    → ((t : ℕ) → Invariant line t (zone_made z number m e ∷ s)) → ZoneRefines line (zone_id line) (zone_made z number m e ∷ s) (record { id = y.id; clock = clock_after y.clock m; trains = trains })
-zone_moved line z number m e s y trains one zone k moves after =
+    → OrderPlaced 32768 m → ((t : ℕ) → Invariant line t (zone_made z number m e ∷ s)) → ZoneRefines line (zone_id line) (zone_made z number m e ∷ s) (record { id = y.id; clock = clock_after y.clock m; trains = trains; closed = closed_acted_on m y.closed })
+zone_moved line z number m e s y trains one zone k moves placed after =
     let x = zone_made z number m e in
     let here : nat_eq (suc z) (zone_id line) ≡ true = grind (arith, nat_tests) in
     record {
@@ -61,6 +63,10 @@ zone_moved line z number m e s y trains one zone k moves after =
       holds = λ t point. ap (λ (n : ℕ). hold_has line n (find_controlled t trains) point) k.id ∙ holds_are line (x ∷ s) one.valid trains moves.found after t point;
       known = moves.known;
       distinct = moves.distinct;
+      segments = acted_length m y.closed ∙ k.segments;
+      closed = λ seg own.
+          acted_at 0 seg m y.closed (subst (λ (n : ℕ). OrderPlaced n m) (sym k.segments) placed)
+          ∙ (ap (λ (b : Bool). closed_after seg (Some (0, m)) b) (k.closed seg own) ∙ sym (closed_next (zone_id line) seg x s here));
       marks = λ t w found.
           let c = found_controls line (x ∷ s) one.valid trains moves.found after t w found in
           let is2 = found_kept line (x ∷ s) one.valid trains moves.found after t w c found in
@@ -77,17 +83,19 @@ at_own : (z : ℕ) (y : PlainZone) (zones : ℕ → PlainZone) → y ≡ with_at
 at_own z y zones = let same : nat_eq z z ≡ true = grind (arith, nat_tests) in rw same refl
 
 pub zone_refined : (line : Line) (z number : ℕ) (m : Msg) (e y : Effect) (s : Story) (p : Plain) (trains : List Controlled) → IsLineOfOneZone line → suc z ≡ zone_id line → Refines line s p → ZoneMoves line s (zone_made z number m e) trains
-    → ((t : ℕ) → Invariant line t (zone_made z number m e ∷ s)) → y.issued ≡ e.issued
-    → Refines line (zone_made z number m e ∷ s) (zone_next p (zone_id line) (record { id = (p.zones (zone_id line)).id; clock = clock_after (p.zones (zone_id line)).clock m; trains = trains }) y)
-zone_refined line z number m e y s p trains one zone k moves after is =
+    → OrderPlaced 32768 m → ((t : ℕ) → Invariant line t (zone_made z number m e ∷ s)) → y.issued ≡ e.issued
+    → Refines line (zone_made z number m e ∷ s)
+    (zone_next p (zone_id line) (record { id = (p.zones (zone_id line)).id; clock = clock_after (p.zones (zone_id line)).clock m; trains = trains; closed = closed_acted_on m (p.zones (zone_id line)).closed }) y)
+zone_refined line z number m e y s p trains one zone k moves placed after is =
     let x = zone_made z number m e in
-    let behind : PlainZone = record { id = (p.zones (zone_id line)).id; clock = clock_after (p.zones (zone_id line)).clock m; trains = trains } in
+    let behind : PlainZone = record { id = (p.zones (zone_id line)).id; clock = clock_after (p.zones (zone_id line)).clock m; trains = trains; closed = closed_acted_on m (p.zones (zone_id line)).closed } in
     record {
+      brake = k.brake;
       time = k.time ∙ clock_still x s refl;
       trains = λ t. k.trains t ∙ sym (world_same line t x s (record { facts = refl; entry = refl; off = refl; still = refl; taken = refl }));
       count = k.count ∙ sym (as_many x s refl);
       zones = each_zone line (x ∷ s) (with_at (zone_id line) behind p.zones) one
-          (subst (λ (w : PlainZone). ZoneRefines line (zone_id line) (x ∷ s) w) (at_own (zone_id line) behind p.zones) (zone_moved line z number m e s (p.zones (zone_id line)) trains one zone (the_zone line s p one k) moves after));
+          (subst (λ (w : PlainZone). ZoneRefines line (zone_id line) (x ∷ s) w) (at_own (zone_id line) behind p.zones) (zone_moved line z number m e s (p.zones (zone_id line)) trains one zone (the_zone line s p one k) moves placed after));
       links = λ from to h. posted_sent (zone_id line) from to x s y p.links zone is (k.links from to h);
       few = λ t. last_next t x s (moves.few t) (k.few t);
       unasked = λ t. unasked_same t x s refl (k.unasked t);

@@ -14,7 +14,7 @@ use Rattle.definitions.specs.Authority.{way}
 use Rattle.definitions.specs.Steps.{Effect, nothing, zone_takes, falls_silent, alarm, alarms, zone_step}
 use Rattle.definitions.specs.Safe.{IsLineOfOneZone}
 use Rattle.plain_state.specs.declared.Controlled.{Controlled}
-use Rattle.plain_state.specs.Zone.{PlainZone, find_controlled, report_or, report_of, is_alarmed, alarm_of, plain_alarms, trains_acted_on, zone_answer, zone_acts_on, clock_after, trains_grown, trains_stepped, zone_gives, zone_take_effect, zone_take_next, grown_train}
+use Rattle.plain_state.specs.Zone.{PlainZone, find_controlled, report_or, report_of, is_alarmed, alarm_of, plain_alarms, trains_acted_on, zone_answer, zone_acts_on, clock_after, trains_grown, trains_stepped, zone_gives, closed_acted_on, closed_stepped, zone_take_effect, zone_take_next, grown_train}
 use Rattle.definitions.specs.Zones.{zone_id}
 use Rattle.plain_state.specs.Plain.{Plain, by_zone as zone_next}
 use Rattle.plain_state.specs.Refinement.{zone_train_of, ZoneRefines, Refines}
@@ -29,6 +29,7 @@ use Rattle.refinement_laws.proofs.Zone_moves.{zone_made, ZoneMoves, zone_refined
 use Rattle.refinement_laws.proofs.Zone_still.{report_unused, report_used}
 use Rattle.refinement_laws.proofs.Answer_now.{answer_now}
 use Rattle.refinement_laws.proofs.Take_moves.{take_moves}
+use Rattle.refinement_laws.proofs.Closed_now.{OrderPlaced}
 
 report_by : (line : Line) (t : ℕ) (s : Story) (w : Option PlainWay) (x : Controlled) → zone_train_of line (zone_id line) t s w ≡ Some x → (x.report ≡ report_time line (zone_id line) t s) × (x.id.0 ≡ t)
 report_by line t s None x e = absurd cc
@@ -56,7 +57,7 @@ module _ (line : Line) (z number : ℕ) (m : Msg) (s : Story) (p : Plain) (one :
   ways = map (grown_train now_) own.trains
 
   abbrev behind : List Controlled
-  behind = trains_acted_on line (zone_id line) now_ ways m
+  behind = trains_acted_on line (zone_id line) now_ ways own.closed m
 
   abbrev e : Effect
   e = zone_step line (zone_id line) 0 s m
@@ -67,7 +68,7 @@ module _ (line : Line) (z number : ℕ) (m : Msg) (s : Story) (p : Plain) (one :
     x = zone_made z number m e
 
     moves : ZoneMoves line s (zone_made z number m e) behind
-    moves = take_moves line z number s p one zone k invariant e.lines m ways (grown_of line s own now_ told) after
+    moves = take_moves line z number s p one zone k invariant e.lines own.closed told.closed m ways (grown_of line s own now_ told) after
 
     report_next : (t : ℕ) → controls (zone_id line) t s ≡ true → report_time line (zone_id line) t (zone_made z number m e ∷ s) ≡ report_time_with line (zone_id line) t s m
     report_next t c =
@@ -99,16 +100,16 @@ module _ (line : Line) (z number : ℕ) (m : Msg) (s : Story) (p : Plain) (one :
     module _ (acts_on : zone_acts_on line own 0 m ≡ true) where
       stepped_is : trains_stepped line own 0 m ≡ behind
       stepped_is =
-          ap (λ (b : Bool). if b then trains_acted_on line own.id (clock_after own.clock m) (trains_grown line own m) m else trains_grown line own m) acts_on
-          ∙ (ap (λ (i : ℕ). trains_acted_on line i (clock_after own.clock m) (trains_grown line own m) m) told.id
-          ∙ ap (λ (c : ℕ). trains_acted_on line (zone_id line) (clock_after c m) (map (grown_train (clock_after c m)) own.trains) m) told.clock)
+          ap (λ (b : Bool). if b then trains_acted_on line own.id (clock_after own.clock m) (trains_grown line own m) own.closed m else trains_grown line own m) acts_on
+          ∙ (ap (λ (i : ℕ). trains_acted_on line i (clock_after own.clock m) (trains_grown line own m) own.closed m) told.id
+          ∙ ap (λ (c : ℕ). trains_acted_on line (zone_id line) (clock_after c m) (map (grown_train (clock_after c m)) own.trains) own.closed m) told.clock)
 
       gives_is : zone_gives line own 0 m ≡ zone_takes line (zone_id line) 0 s m
       gives_is =
-          ap (λ (b : Bool). if b then zone_answer line own.id (clock_after own.clock m) (trains_grown line own m) m else nothing) acts_on
-          ∙ (ap (λ (i : ℕ). zone_answer line i (clock_after own.clock m) (trains_grown line own m) m) told.id
-          ∙ (ap (λ (c : ℕ). zone_answer line (zone_id line) (clock_after c m) (map (grown_train (clock_after c m)) own.trains) m) told.clock
-          ∙ sym (answer_now line z number s one zone invariant m ways (grown_of line s own now_ told))))
+          ap (λ (b : Bool). if b then zone_answer line own.id (clock_after own.clock m) (trains_grown line own m) own.closed m else nothing) acts_on
+          ∙ (ap (λ (i : ℕ). zone_answer line i (clock_after own.clock m) (trains_grown line own m) own.closed m) told.id
+          ∙ (ap (λ (c : ℕ). zone_answer line (zone_id line) (clock_after c m) (map (grown_train (clock_after c m)) own.trains) own.closed m) told.clock
+          ∙ sym (answer_now line z number s one zone invariant m ways (grown_of line s own now_ told) own.closed told.closed)))
 
       lines_are : plain_alarms line own.id own.clock (clock_after own.clock m) own.trains (trains_stepped line own 0 m) ≡ alarms line (zone_id line) s m
       lines_are =
@@ -123,7 +124,17 @@ module _ (line : Line) (z number : ℕ) (m : Msg) (s : Story) (p : Plain) (one :
           with_lines : Effect → List Outcome → Effect
           with_lines y ls = record { issued = y.issued; lines = y.lines ++ ls }
 
-      pub zone_take_refined : Refines line (zone_made z number m e ∷ s) (zone_next p (zone_id line) (zone_take_next line own 0 m) (zone_take_effect line own 0 m))
-      zone_take_refined =
-          subst (λ (trains : List Controlled). Refines line (x ∷ s) (zone_next p (zone_id line) (record { id = own.id; clock = clock_after own.clock m; trains = trains }) (zone_take_effect line own 0 m))) (sym stepped_is)
-          (zone_refined line z number m e (zone_take_effect line own 0 m) s p behind one zone k moves after (ap (λ (y : Effect). y.issued) (sym zone_taken)))
+      closed_is : closed_stepped line own 0 m ≡ closed_acted_on m own.closed
+      closed_is = ap (λ (b : Bool). if b then closed_acted_on m own.closed else own.closed) acts_on
+
+      zone_is : zone_take_next line own 0 m ≡ record { id = own.id; clock = clock_after own.clock m; trains = behind; closed = closed_acted_on m own.closed }
+      zone_is =
+          ap (λ (xs : List Controlled). zone_with xs (closed_stepped line own 0 m)) stepped_is ∙ ap (λ (bs : List Bool). zone_with behind bs) closed_is
+        where
+          zone_with : List Controlled → List Bool → PlainZone
+          zone_with xs bs = record { id = own.id; clock = clock_after own.clock m; trains = xs; closed = bs }
+
+      pub zone_take_refined : OrderPlaced 32768 m → Refines line (zone_made z number m e ∷ s) (zone_next p (zone_id line) (zone_take_next line own 0 m) (zone_take_effect line own 0 m))
+      zone_take_refined placed =
+          subst (λ (y : PlainZone). Refines line (x ∷ s) (zone_next p (zone_id line) y (zone_take_effect line own 0 m))) (sym zone_is)
+          (zone_refined line z number m e (zone_take_effect line own 0 m) s p behind one zone k moves placed after (ap (λ (y : Effect). y.issued) (sym zone_taken)))

@@ -139,8 +139,8 @@ stretch_free line z t u silent path asked to s point own other h =
     let near : r.place - end < (reach_on (layout line) ask).distance = omega arith in
     let here : end + (r.place - end) ≡ r.place = omega arith in
     let not_held : stands (layout line) ask Held r.place ≡ false = subst (λ (p : ℕ). stands (layout line) ask Held p ≡ false) here (is.none_nearer Held (r.place - end) near) in
-    let none : barring line z t s point ≡ false = by_test (barring line z t s point)
-    (λ y. absurd (let e = sym (on_passes (barring line z t s) point (layout line) (asked_way path.steps.items asked) r.place r.passing y) ∙ not_held in cc))
+    let none : (barring line z t s).held point ≡ false = by_test ((barring line z t s).held point)
+    (λ y. absurd (let e = sym (on_passes (barring line z t s).held point (layout line) (asked_way path.steps.items asked) r.place r.passing y) ∙ not_held in cc))
     (λ m. m) in
     not_else line z t u s point (and_right (nat_eq (owner line point) z) (held_else line z t s point) own none) other))
     (λ n.

@@ -125,7 +125,7 @@ module _ (line : Line) (t : ℕ) (s : Story) (l : IsLineOfOneZone line) (invaria
       (points_after point (layout line) before a.path.steps.items a.path.from (end_place len a.path) ∙ h)
 
 module _ (line : Line) (t : ℕ) (s : Story) (l : IsLineOfOneZone line) (invariant : Invariant line t s) (point : Point) where
-  limit_held_here : entered t s ≡ true → limit_has (layout line) (journey line t s) (rear t s) (limit_held t s) point ≡ true → held line (owner line point) t s point ≡ true
+  limit_held_here : entered t s ≡ true → limit_has (layout line) (journey line t s) (rear t s) (limit_held line t s) point ≡ true → held line (owner line point) t s point ≡ true
   limit_held_here on h =
       let control = on_controls line t s invariant.authorized on in
       let m = invariant.authorized.limit on in
@@ -151,7 +151,7 @@ module _ (line : Line) (t : ℕ) (s : Story) (l : IsLineOfOneZone line) (invaria
   within_here : usable line t s point ≡ true → held line (owner line point) t s point ≡ true
   within_here h = by_test (entered t s)
       (λ on.
-      let u : (limit_has (layout line) (journey line t s) (rear t s) (limit_held t s) point || ever_issued (auth_has (layout line) (journey line t s) t (last_number t s) (rear t s) point) s) ≡ true = rw on at h in
+      let u : (limit_has (layout line) (journey line t s) (rear t s) (limit_held line t s) point || ever_issued (auth_has (layout line) (journey line t s) t (last_number t s) (rear t s) point) s) ≡ true = rw on at h in
       by_or _ _ u
       (λ a. limit_held_here on a)
       (λ a. issued_found _ (auth_has (layout line) (journey line t s) t (last_number t s) (rear t s) point) (AuthTrue line t s) s invariant.authorized.auths a (auth_held_here on)))

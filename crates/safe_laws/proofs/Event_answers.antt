@@ -8,7 +8,7 @@ use Rattle.arrayvec.specs.ArrayVec.{ArrayVec}
 use Rattle.track_points.specs.declared.ids.DirSeg.{DirSeg}
 use Rattle.track_points.specs.declared.ids.TrainId.{TrainId}
 use Rattle.track_points.specs.declared.path.Path.{Path}
-use Rattle.track_points.specs.Points.{Lengths, Point, total, end_place}
+use Rattle.track_points.specs.Points.{Lengths, total, end_place}
 use Rattle.definitions.specs.declared.event.Event.{Event}
 use Rattle.definitions.specs.declared.event.Event.TheVariants.{Take}
 use Rattle.definitions.specs.declared.message.Msg.{Msg}
@@ -21,7 +21,7 @@ use Rattle.definitions.specs.Control.{controls, now_with, last_issued}
 use Rattle.definitions.specs.Longest.{counted}
 use Rattle.definitions.specs.Fronts.{report_time, silent_by}
 use Rattle.definitions.specs.Authority.{way}
-use Rattle.definitions.specs.Limit.{Reach, barred, further, asked_way, continues, path_of, ask_of, reach_from, barring, limit}
+use Rattle.definitions.specs.Limit.{Bars, Reach, barred, further, asked_way, continues, path_of, ask_of, reach_from, barring, limit}
 use Rattle.definitions.specs.Steps.{Effect, path_to, deny, grant, zone_ask, alarms, taking, message, effects}
 use Rattle.definitions.specs.Safe.{IsReach, Denied, Lengthened, Answered, IsLineOfOneZone}
 use Rattle.definitions.specs.Zones.{zone_id}
@@ -33,7 +33,7 @@ use Rattle.safe_laws.proofs.Held_way_ends.{held_way_some, held_way_within}
 
 -- The reach, where an ask is barred.
 
-pub unready_reach : (line : Line) (ready silent : Bool) (path : Option Path) (asked : List DirSeg) (to : ℕ) (bars : Point → Bool) → ready ≡ false → reach_from line ready silent path asked to bars ≡ barred NotJoined
+pub unready_reach : (line : Line) (ready silent : Bool) (path : Option Path) (asked : List DirSeg) (to : ℕ) (bars : Bars) → ready ≡ false → reach_from line ready silent path asked to bars ≡ barred NotJoined
 unready_reach line ready silent None asked to bars h = refl
 unready_reach line ready silent (Some path) asked to bars h = rw h refl
 

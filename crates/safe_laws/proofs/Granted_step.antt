@@ -23,10 +23,10 @@ use Rattle.definitions.specs.Longest.{counted, longest_end}
 use Rattle.definitions.specs.Fronts.{report_time, silent_by}
 use Rattle.definitions.specs.Authority.{way, holder_of}
 use Rattle.definitions.specs.Limit.{Reach, asked_way, path_of, reach_from, barring, limit}
-use Rattle.definitions.specs.Steps.{Effect, world_takes, entry_path, enter_or_held, zone_ask, zone_report, zone_time, zone_takes, alarms, transition, effects}
+use Rattle.definitions.specs.Steps.{Effect, world_takes, entry_path, enter_or_held, zone_ask, zone_report, zone_time, zone_order, zone_takes, alarms, transition, effects}
 use Rattle.definitions.specs.Safe.{Granted, IsLineOfOneZone, reached, added_by, added}
 use Rattle.event_laws.proofs.By_does.{by_does, told_none, take_actors, take_issued}
-use Rattle.event_laws.proofs.Zone_issues.{report_none, zone_other, world_none}
+use Rattle.event_laws.proofs.Zone_issues.{report_none, order_none, zone_other, world_none}
 use Rattle.definitions.specs.Zones.{zone_id}
 use Rattle.way_laws.proofs.Cut_front.{none_between}
 use Rattle.way_laws.proofs.Reach_granted.{reach_granted}
@@ -225,6 +225,7 @@ module _ (line : Line) (t z from number : ℕ) (s : Story) (lines : List Outcome
       (report_none line (suc z) s u m)
       (λ point. refl)
   zone_goes (msg.Time time u) request = time_goes u time
+  zone_goes (msg.Order time order) request = silent_goes (msg.Order time order) (zone_order (suc z) order).issued (order_none (suc z) order) (λ point. refl)
   zone_goes m request = silent_goes m [] refl (λ point. refl)
 
 -- Each event.
@@ -239,8 +240,8 @@ event_adds line t s e l a invariant after = by_does line s e (λ x. Invariant li
     let x = transition e b None y in
     calm_adds line t s x l invariant later (no_auth_calm line t s x (told_none t s e y.issued i) heads (λ z point. untaken line z t s b point)))
     (λ from m k later heads.
-    let x = transition (Take 0 from k.number) 0 (Some (from, m)) (world_takes s from m) in
-    calm_adds line t s x l invariant later (no_auth_calm line t s x (world_none t s from m) heads (λ z point. refl)))
+    let x = transition (Take 0 from k.number) 0 (Some (from, m)) (world_takes line s from m) in
+    calm_adds line t s x l invariant later (no_auth_calm line t s x (world_none t line s from m) heads (λ z point. refl)))
     (λ z from m k later heads.
     zone_goes line t z from k.number s ((zone_takes line (suc z) from s m).lines ++ alarms line (suc z) s m) l (actor_zone line z l (take_actors line s e (suc z) from m a k).1.0) invariant m
     (take_issued (RequestTrue line t s) s e (suc z) from m invariant.authorized.requests k) later)

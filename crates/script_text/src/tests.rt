@@ -95,7 +95,11 @@ const REFUSED: &str = "11 take 1 0 01
 /// What each text line says, and the text line: a column, or one of the words.
 const LINES: &str = "passed\x20
 passed #
-unbuilt order close 9
+13 order close 9
+event order close 2
+12 order open 9
+event order open 1
+unbuilt order turn 1 +
 unbuilt leave 9
 9 noise 1 1 00
 event noise 1 0 00

@@ -257,7 +257,7 @@ module _ (line : Line) (t : ℕ) (s : Story) (x : Transition) (valid : is_line l
         (λ n.
         let was = sym (entered_same t x s n) ∙ on in
         let c = on_controlled (k.came_on was) in
-        limit_goes line t s x k c (stay_next c i) n was a.stopping taken)
+        limit_goes line t s x k c (stay_next c i) going.motion n was a.stopping taken)
 
     pub last_next : TakenIs line t s (world_took x) → last_number t (x ∷ s) ≤ last_issued t (x ∷ s)
     unfolding last_number

@@ -19,7 +19,7 @@ use Rattle.event_laws.proofs.Issued_all.{no_issue}
 use Rattle.event_laws.proofs.Admitted.{Admitted}
 use Rattle.invariant_laws.proofs.Invariant.{RequestTrue, Invariant}
 use Rattle.invariant_laws.proofs.Zone_only.{zone_only}
-use Rattle.event_laws.proofs.Zone_issues.{report_none, train_of, zone_other, world_none}
+use Rattle.event_laws.proofs.Zone_issues.{report_none, order_none, train_of, zone_other, world_none}
 use Rattle.step_laws.proofs.Issues.{Issues, quiet, entry_issues, ask_issues, time_issues}
 
 -- A zone's take, for any train.
@@ -46,6 +46,7 @@ module _ (line : Line) (s : Story) (one : IsLineOfOneZone line) (invariant : (t 
       its_own (msg.Time time u) (time_issues line s one e still from u (invariant u.0).motion (invariant u.0).authorized (invariant u.0).fronts time)
   zone_issues (msg.Report u time mark offset integrity) asked =
       quiet (no_issue t (step (msg.Report u time mark offset integrity)).issued (report_none line z s u (msg.Report u time mark offset integrity)))
+  zone_issues (msg.Order time order) asked = quiet (no_issue t (step (msg.Order time order)).issued (order_none z order))
   zone_issues _ asked = quiet (no_issue t [] refl)
 
 -- a zone that takes is the line's
@@ -57,7 +58,7 @@ taker_is line z one h =
 pub effect_issues : (line : Line) (s : Story) → IsLineOfOneZone line → ((t : ℕ) → Invariant line t s) → (t : ℕ) (e : Event) → Admitted line s e → Issues line t s (effects line s e)
 effect_issues line s one invariant t e a = by_does line s e (λ x. Issues line t s x)
     (λ b x i. quiet (told_none t s e x.issued i))
-    (λ from m k. quiet (world_none t s from m))
+    (λ from m k. quiet (world_none t line s from m))
     (λ z from m k.
     let take = Take (suc z) from k.number in
     subst (λ (y : ℕ). Issues line t s (transition take y (Some (from, m)) (zone_step line y from s m))) (sym (taker_is line z one (take_actors line s e (suc z) from m a k).1.0))

@@ -92,11 +92,11 @@ pub effect_took_is : (line : Line) (s : Story) → IsLineOfOneZone line → (t :
 effect_took_is line s one t auth e a = by_does line s e (λ x. TookIs line t s x)
     (λ b x i. took_none line t s e b x.issued x.lines)
     (λ from m k.
-    let x = transition (Take 0 from k.number) 0 (Some (from, m)) (world_takes s from m) in
+    let x = transition (Take 0 from k.number) 0 (Some (from, m)) (world_takes line s from m) in
     record {
       world = auth_taken line t s from m (number_most (auth_number t) from 0 s (k.number - 1) m k.was_sent) (take_issued (AuthTrue line t s) s e 0 from m auth.auths k);
       answer = answer_taken line t s from m (take_issued (RequestTrue line t s) s e 0 from m auth.requests k);
-      zone = λ y h. absurd (let c : false ≡ true = sym (quiet_grants y t x (world_none t s from m)) ∙ h in cc);
+      zone = λ y h. absurd (let c : false ≡ true = sym (quiet_grants y t x (world_none t line s from m)) ∙ h in cc);
     })
     (λ z from m k.
     let x = transition (Take (suc z) from k.number) (suc z) (Some (from, m)) (zone_step line (suc z) from s m) in

@@ -7,7 +7,7 @@ use Rattle.list_laws.proofs.By_test.{by_test}
 use Rattle.track_points.specs.declared.ids.DirSeg.{DirSeg}
 use Rattle.track_points.specs.declared.ids.TrainId.{TrainId}
 use Rattle.track_points.specs.declared.path.Path.{Path}
-use Rattle.track_points.specs.Points.{Point, total, end_place}
+use Rattle.track_points.specs.Points.{total, end_place}
 use Rattle.arrayvec.specs.ArrayVec.{ArrayVec}
 use Rattle.definitions.specs.declared.event.Event.{Event}
 use Rattle.definitions.specs.declared.message.Msg.{Msg}
@@ -20,7 +20,7 @@ use Rattle.definitions.specs.Control.{grants_entry, controls, knows, knows_most,
 use Rattle.definitions.specs.Longest.{counted, longest_end, longest_route}
 use Rattle.definitions.specs.Fronts.{report_time, silent_by, least_rear}
 use Rattle.definitions.specs.Authority.{way, holder_of}
-use Rattle.definitions.specs.Limit.{Reach, asked_way, continues, path_of, reach_from, barring, limit}
+use Rattle.definitions.specs.Limit.{Bars, Reach, asked_way, continues, path_of, reach_from, barring, limit}
 use Rattle.definitions.specs.Steps.{path_to, zone_step, transition}
 use Rattle.definitions.specs.Safe.{IsLineOfOneZone}
 use Rattle.event_laws.proofs.Zone_issues.{entry_cases, ask_cases, time_cases}
@@ -43,9 +43,9 @@ pub data Issues (line : Line) (t : ℕ) (s : Story) (x : Transition) : Type 0 wh
   issues : NewAuth line t s x → Issues line t s x
 
 -- where a zone does not control a train an ask reaches nowhere
-no_reach : (line : Line) (ready silent : Bool) (w : Option Path) (asked : List DirSeg) (to : ℕ) (held : Point → Bool) → ready ≡ false → nat_eq (reach_from line ready silent w asked to held).distance 0 ≡ true
-no_reach line ready silent None asked to held h = refl
-no_reach line ready silent (Some path) asked to held h = rw h refl
+no_reach : (line : Line) (ready silent : Bool) (w : Option Path) (asked : List DirSeg) (to : ℕ) (bars : Bars) → ready ≡ false → nat_eq (reach_from line ready silent w asked to bars).distance 0 ≡ true
+no_reach line ready silent None asked to bars h = refl
+no_reach line ready silent (Some path) asked to bars h = rw h refl
 
 some_way : (v w : PlainWay) → Some v ≡ Some w → v ≡ w
 some_way v w h = cc
@@ -95,7 +95,7 @@ module _ (line : Line) (s : Story) (one : IsLineOfOneZone line) (e : Event) (sti
       let len = seg_len line in
       let ready = controls z u.0 s && nat_lt 0 (counted line u.0 s) in
       let silent = silent_by line (report_time line z u.0 s) (now_with z s q) in
-      let held = barring line z u.0 s in
+      let bars = barring line z u.0 s in
       ask_cases (Issues line u.0 s x) len z u (last_issued u.0 s) (way line z u.0 s) steps.items (limit line z u.0 s (now_with z s q) steps.items to)
       (λ h. quiet (no_issue u.0 x.issued h))
       (λ v is far h. by_test ready
@@ -108,16 +108,16 @@ module _ (line : Line) (s : Story) (one : IsLineOfOneZone line) (e : Event) (sti
       let on = come_on r.1 in
       let p = ap (λ (y : PlainWay). path_fits line y.path) same ∙ way_fits line u.0 s one m k c f in
       let fit = path_parts line v.path p in
-      let reach : limit line z u.0 s (now_with z s q) steps.items to ≡ reach_from line ready silent (Some v.path) steps.items to held = ap (λ (y : Option PlainWay). reach_from line ready silent (path_of y) steps.items to held) is in
+      let reach : limit line z u.0 s (now_with z s q) steps.items to ≡ reach_from line ready silent (Some v.path) steps.items to bars = ap (λ (y : Option PlainWay). reach_from line ready silent (path_of y) steps.items to bars) is in
       let d = (limit line z u.0 s (now_with z s q) steps.items to).distance in
-      let some : nat_eq (reach_from line ready silent (Some v.path) steps.items to held).distance 0 ≡ false = sym (ap (λ (y : Reach). nat_eq y.distance 0) reach) ∙ far in
-      let go_on = granted_ready line ready silent v.path steps.items to held some in
-      let within = reach_granted line ready silent v.path steps.items to held fit.some fit.within in
+      let some : nat_eq (reach_from line ready silent (Some v.path) steps.items to bars).distance 0 ≡ false = sym (ap (λ (y : Reach). nat_eq y.distance 0) reach) ∙ far in
+      let go_on = granted_ready line ready silent v.path steps.items to bars some in
+      let within = reach_granted line ready silent v.path steps.items to bars fit.some fit.within in
       let room : end_place len v.path + d ≤ total len (asked_way v.path.steps.items steps.items) = subst (λ (y : Reach). end_place len v.path + y.distance ≤ total len (asked_way v.path.steps.items steps.items)) (sym reach) within in
-      let fits = subst (λ (y : Reach). path_fits line (path_to len v.path.from (asked_way v.path.steps.items steps.items) (end_place len v.path + y.distance)) ≡ true) (sym reach) (grant_fits line ready silent v.path steps.items to held fit some) in
+      let fits = subst (λ (y : Reach). path_fits line (path_to len v.path.from (asked_way v.path.steps.items steps.items) (end_place len v.path + y.distance)) ≡ true) (sym reach) (grant_fits line ready silent v.path steps.items to bars fit some) in
       let above : 0 < d = grind (arith, nat_tests) in
       issues (granted line u.0 s one m k c f x steps.items v same u d go_on.1.0 above room fits h own (still u.0) (ungranted_ask time steps to) on))
-      (λ n. absurd (let c : true ≡ false = sym (no_reach line ready silent (path_of (way line z u.0 s)) steps.items to held n) ∙ far in cc)))
+      (λ n. absurd (let c : true ≡ false = sym (no_reach line ready silent (path_of (way line z u.0 s)) steps.items to bars n) ∙ far in cc)))
     where
       come_on : nat_lt 0 (counted line u.0 s) ≡ true → entered u.0 s ≡ true
       come_on h = by_test (entered u.0 s)

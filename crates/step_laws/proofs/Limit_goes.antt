@@ -10,7 +10,7 @@ use Rattle.definitions.specs.declared.event.Event.TheVariants.{Step}
 use Rattle.definitions.specs.Track.{Line, seg_len}
 use Rattle.definitions.specs.Premises.{stops_rightly}
 use Rattle.definitions.specs.Story.{Transition, Story, ever, world_took}
-use Rattle.definitions.specs.World.{enters, entered, moved, head, journey, Authority, authority_end, HeldPath, entry_authority, taken_number, last_number, limit_held, held_end, limit_place}
+use Rattle.definitions.specs.World.{enters, entered, moved, head, journey, Authority, authority_end, HeldPath, entry_authority, taken_number, taken_path, accepts_some, last_number, limit_held, held_end, limit_place}
 use Rattle.definitions.specs.Control.{controls}
 use Rattle.definitions.specs.Farther.{end_or_0}
 use Rattle.definitions.specs.Fold.{account}
@@ -25,6 +25,7 @@ use Rattle.motion_laws.proofs.Head_step.{head_step}
 use Rattle.invariant_laws.proofs.Invariant.{end_read, AuthorityIs, FirstIs, LimitIs, Authorized}
 use Rattle.invariant_laws.proofs.One_route.{first_end}
 use Rattle.invariant_laws.proofs.First_steps.{end_same}
+use Rattle.invariant_laws.proofs.Accepted.{no_nearer, accepted}
 use Rattle.authority_laws.proofs.Auths_stay.{Going, AuthsStay, held_stays}
 use Rattle.front_laws.proofs.Route_goes_on.{read_stays}
 use Rattle.step_laws.proofs.Effect_took_is.{TakenIs}
@@ -55,10 +56,10 @@ number_grows t x s once = by_test (enters t x.event)
 
 module _ (line : Line) (t : ℕ) (s : Story) (x : Transition) (k : Authorized line t s) (c : controls (zone_id line) t s ≡ true) (stay : AuthsStay line t s x) where
   -- the end of an authority held, on the journey one transition further
-  held_is : (h : HeldPath) → limit_held t (x ∷ s) ≡ Some h → AuthorityIs line t s h.authority → limit_place line t (x ∷ s) ≡ authority_end (seg_len line) (journey line t s) h.authority
+  held_is : (h : HeldPath) → limit_held line t (x ∷ s) ≡ Some h → AuthorityIs line t s h.authority → limit_place line t (x ∷ s) ≡ authority_end (seg_len line) (journey line t s) h.authority
   held_is h is a = ap (λ (g : Option HeldPath). held_end (seg_len line) (journey line t (x ∷ s)) g) is ∙ end_same line t x s stay.first h.authority a.mark
 
-  held_was : (h : HeldPath) → limit_held t s ≡ Some h → limit_place line t s ≡ authority_end (seg_len line) (journey line t s) h.authority
+  held_was : (h : HeldPath) → limit_held line t s ≡ Some h → limit_place line t s ≡ authority_end (seg_len line) (journey line t s) h.authority
   held_was h is = ap (λ (g : Option HeldPath). held_end (seg_len line) (journey line t s) g) is
 
   -- as the train comes on
@@ -69,7 +70,7 @@ module _ (line : Line) (t : ℕ) (s : Story) (x : Transition) (k : Authorized li
       let g = k.controlled c in
       let early = g.early off in
       let steps = journey line t s in
-      let p = held_is h (limit_on t x s on ∙ is) a in
+      let p = held_is h (limit_on line t x s on ∙ is) a in
       let e = first_end line t s steps h.authority held.first in
       let e2 = first_end line t s steps g.newest early.1 in
       let same = ap (λ (st : DirSeg). seg_len line st.seg.0) (first_step line t s h.authority g.newest held.first early.1) in
@@ -81,14 +82,14 @@ module _ (line : Line) (t : ℕ) (s : Story) (x : Transition) (k : Authorized li
       let room = held.first.room in
       record {
         held = h;
-        is = limit_on t x s on ∙ is;
+        is = limit_on line t x s on ∙ is;
         authority = held_stays line t s x k stay h.authority a;
         number = omega (arith, p, e, e2, same, newest, m, n);
         ahead = omega (arith, p, e, hd, room);
       }
 
   -- on the line: a greater number that it takes, or the limit that it holds
-  module _ (no : enters t x.event ≡ false) (on : entered t s ≡ true) (stops : stops_rightly line s x.event ≡ true) where
+  module _ (motion : Motion t s) (no : enters t x.event ≡ false) (on : entered t s ≡ true) (stops : stops_rightly line s x.event ≡ true) where
     limit_takes : TakenIs line t s (world_took x) → nat_lt (last_number t s) (taken_number t (world_took x)) ≡ true → LimitIs line t (x ∷ s)
     limit_takes taken new =
         let less : last_number t s < taken_number t (world_took x) = grind (arith, nat_tests) in
@@ -96,24 +97,25 @@ module _ (line : Line) (t : ℕ) (s : Story) (x : Transition) (k : Authorized li
         let h = some.0 in
         let i = taken.is h some.1 in
         let a = i.authority in
-        let is = limit_next t x s no on new ∙ some.1 in
+        let later : last_number t s ≤ taken_number t (world_took x) = omega (arith, less) in
+        let takes_it : accepts_some line t s (limit_place line t s) (taken_path t (world_took x)) ≡ true =
+        ap (accepts_some line t s (limit_place line t s)) some.1 ∙ accepted line t s k motion on (taken_number t (world_took x)) h.authority i later in
+        let is = limit_next line t x s no on new takes_it ∙ some.1 in
         let p = held_is h is a in
         let exact = i.exact in
         let m = read_stays line t x s k stay.first (taken_number t (world_took x)) taken.known in
         let q = number_next t x s no on in
         let number : last_number t (x ∷ s) ≡ taken_number t (world_took x) = omega (arith, q, less) in
         let n = ap (λ (j : ℕ). end_read line t (x ∷ s) j) number in
-        let j = k.limit on in
-        let old = j.number in
-        let more = k.rising (last_number t s) (taken_number t (world_took x)) (omega arith) (omega (arith, less)) taken.known in
+        let more = no_nearer line t s k motion on (taken_number t (world_took x)) h.authority i later in
         let hd = head_next t x s no in
-        let st = moved_stops line t s x.event stops j.ahead in
+        let st = moved_stops line t s x.event stops (k.limit on).ahead in
         record {
           held = h;
           is = is;
           authority = held_stays line t s x k stay h.authority a;
           number = omega (arith, p, exact, m, n);
-          ahead = omega (arith, hd, st, old, more, exact, p);
+          ahead = omega (arith, hd, st, more, p);
         }
 
     limit_stays : nat_lt (last_number t s) (taken_number t (world_took x)) ≡ false → LimitIs line t (x ∷ s)
@@ -121,7 +123,7 @@ module _ (line : Line) (t : ℕ) (s : Story) (x : Transition) (k : Authorized li
         let j = k.limit on in
         let h = j.held in
         let a = j.authority in
-        let is = limit_kept t x s no none ∙ j.is in
+        let is = limit_kept line t x s no none ∙ j.is in
         let p = held_is h is a in
         let was = held_was h j.is in
         let old = j.number in

@@ -9,14 +9,14 @@ use Rattle.track_points.specs.declared.ids.DirSeg.{DirSeg}
 use Rattle.track_points.specs.declared.ids.TrainId.{TrainId}
 use Rattle.track_points.specs.Points.{dir_eq, step_eq}
 use Rattle.definitions.specs.declared.event.Event.{Event}
-use Rattle.definitions.specs.declared.event.Event.TheVariants.{Entry, Enter, Ask, Report, Time, Take, Noise}
+use Rattle.definitions.specs.declared.event.Event.TheVariants.{Entry, Enter, Ask, Report, Time, Close, Open, Take, Noise}
 use Rattle.definitions.specs.declared.message.Msg.{Msg}
 use Rattle.definitions.specs.declared.message.Msg.TheVariants as msg
 use Rattle.definitions.specs.Frames.{frame_at}
 use Rattle.definitions.specs.Track.{Line, ranged, zone_of, has_zone, begins_at_portal}
 use Rattle.definitions.specs.Premises.{on_line, same_portal}
 use Rattle.definitions.specs.Story.{Transition, Story}
-use Rattle.definitions.specs.World.{Facts, clock, facts_of, is_declared, entry_in, first_entry, enters, entered, HeldPath, entry_authority, auth_number, last_number}
+use Rattle.definitions.specs.World.{Facts, clock, facts_of, is_declared, entry_in, first_entry, enters, entered, HeldPath, entry_authority, auth_number, last_number, last_taken, accepts, limit_place}
 use Rattle.definitions.specs.Control.{last_issued}
 use Rattle.definitions.specs.Steps.{sender_of, entering, requesting, taking_auth, world_takes, zone_takes, taking, message, effects}
 use Rattle.event_laws.proofs.Issued_all.{AllIn, AllIssued, all_weaker}
@@ -94,11 +94,11 @@ module _ (line : Line) (t : ℕ) (s : Story) (k : Authorized line t s) where
           let on : enters t x.event ≡ true = ap (λ (e : Event). enters t e) event ∙ its in
           (omega (arith, a, b), ever_now (λ (e : Transition). enters t e.event) x s on)
 
-  answered_now : (u : TrainId) (from number mark : ℕ) (on : Bool) (last : ℕ) → entered u.0 s ≡ on → last_number u.0 s ≡ last → (nat_eq u.0 t ≡ true → number ≤ last_issued t s) → (x : Transition)
-      → AllIn (RequestTrue line t (x ∷ s)) (taking_auth (clock s) on last u from number).issued
+  answered_now : (u : TrainId) (from number : ℕ) (on : Bool) (last : ℕ) (was_taken takes_it : Bool) → entered u.0 s ≡ on → last_number u.0 s ≡ last → (nat_eq u.0 t ≡ true → number ≤ last_issued t s) → (x : Transition)
+      → AllIn (RequestTrue line t (x ∷ s)) (taking_auth (clock s) on last was_taken takes_it u from number).issued
   unfolding AllIn
-  answered_now u from number mark false last is same most x = tt
-  answered_now u from number mark true last is same most x = by_test (nat_lt last number)
+  answered_now u from number false last was_taken takes_it is same most x = tt
+  answered_now u from number true last was_taken takes_it is same most x = by_test (nat_lt last number)
       (λ y. rw y (λ i. let a = most i in let b = last_grows t x s in (omega (arith, a, b), on (eqb-true u.0 t i)), tt))
       (λ n. rw n (λ i. (low (eqb-true u.0 t i), on (eqb-true u.0 t i)), tt))
     where
@@ -112,9 +112,9 @@ module _ (line : Line) (t : ℕ) (s : Story) (k : Authorized line t s) where
           let b = last_grows t x s in
           omega (arith, e, a, b)
 
-  world_requests : (from : ℕ) (m : Msg) → auth_number t m ≤ last_issued t s → (x : Transition) → AllIn (RequestTrue line t (x ∷ s)) (world_takes s from m).issued
+  world_requests : (from : ℕ) (m : Msg) → auth_number t m ≤ last_issued t s → (x : Transition) → AllIn (RequestTrue line t (x ∷ s)) (world_takes line s from m).issued
   unfolding AllIn
-  world_requests from (msg.Auth u number mark path) most x = answered_now u from number mark (entered u.0 s) (last_number u.0 s) refl refl (λ y. number_is y) x
+  world_requests from (msg.Auth u number mark path) most x = answered_now u from number (entered u.0 s) (last_number u.0 s) (last_taken line u.0 s) (accepts line u.0 s (limit_place line u.0 s) (record { mark = mark; path = path })) refl refl (λ y. number_is y) x
     where
       number_is : nat_eq u.0 t ≡ true → number ≤ last_issued t s
       number_is y = rw y at most
@@ -138,5 +138,7 @@ module _ (line : Line) (t : ℕ) (s : Story) (k : Authorized line t s) where
   effect_requests (Report u zone step offset whole) a = (tt, tt)
   effect_requests (Time zone u) a = (tt, tt)
   effect_requests (Take to from number) a = take_requests (Take to from number) to from number (message from to number s) refl (effects line s (Take to from number))
+  effect_requests (Close seg) a = (tt, tt)
+  effect_requests (Open seg) a = (tt, tt)
   effect_requests (Noise to from bytes) a = rw (noise_issues to (frame_at bytes.items)) tt
   effect_requests _ a = tt

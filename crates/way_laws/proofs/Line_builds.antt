@@ -12,7 +12,7 @@ use Rattle.track_points.specs.declared.ids.DirSeg.{DirSeg}
 use Rattle.track_points.specs.Points.{dir_eq}
 use Rattle.definitions.specs.declared.item.End.{End}
 use Rattle.definitions.specs.declared.item.Item.{Item}
-use Rattle.definitions.specs.declared.item.Item.TheVariants.{Zone, Segment, Joint, Portal, Buffer, Silent}
+use Rattle.definitions.specs.declared.item.Item.TheVariants.{Zone, Segment, Joint, Portal, Buffer, Brake, Silent}
 use Rattle.definitions.specs.Track.{Line, ranged, end_eq, is_segment, is_portal, uses, joins, length_in, has_segment, seg_len, exit_of, entrance_of, follows, begins_at_portal}
 use Rattle.definitions.specs.Rules.{rule_of, builds, finish_rule, is_line}
 use Rattle.definitions.specs.Premises.{on_line}
@@ -40,6 +40,7 @@ item_long before (Zone y) s h k = absurd cc
 item_long before (Joint x y) s h k = absurd cc
 item_long before (Portal y) s h k = absurd cc
 item_long before (Buffer y) s h k = absurd cc
+item_long before (Brake ticks runaway rate) s h k = absurd cc
 item_long before (Silent ms) s h k = absurd cc
 
 long_declared : (items before : List Item) (s : ℕ) → builds before items ≡ true → has_segment items s ≡ true → 1 ≤ seg_len items s
@@ -114,6 +115,7 @@ used_end before (Portal a) e h u = let b = unbroken before (Portal a) h in lone_
 used_end before (Buffer a) e h u = let b = unbroken before (Buffer a) h in lone_end before a e b.known b.free u
 used_end before (Zone y) e h u = absurd cc
 used_end before (Segment s z len) e h u = absurd cc
+used_end before (Brake ticks runaway rate) e h u = absurd cc
 used_end before (Silent ms) e h u = absurd cc
 
 -- an end that is used is not used again
@@ -141,6 +143,7 @@ portal_uses e (Zone y) h = absurd cc
 portal_uses e (Segment s z len) h = absurd cc
 portal_uses e (Joint a b) h = absurd cc
 portal_uses e (Buffer a) h = absurd cc
+portal_uses e (Brake ticks runaway rate) h = absurd cc
 portal_uses e (Silent ms) h = absurd cc
 
 joins_uses : (e f : End) (i : Item) → joins e f i ≡ true → (uses e i ≡ true) × (uses f i ≡ true)
@@ -149,6 +152,7 @@ joins_uses e f (Portal a) h = absurd cc
 joins_uses e f (Zone y) h = absurd cc
 joins_uses e f (Segment s z len) h = absurd cc
 joins_uses e f (Buffer a) h = absurd cc
+joins_uses e f (Brake ticks runaway rate) h = absurd cc
 joins_uses e f (Silent ms) h = absurd cc
 
 pub portal_on_line : (line : Line) (st : DirSeg) → is_line line ≡ true → begins_at_portal line st ≡ true → on_line line st ≡ true

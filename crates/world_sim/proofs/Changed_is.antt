@@ -13,11 +13,10 @@ use Rattle.list_laws.proofs.By_test.{by_test}
 use Rattle.definitions.specs.Track.{Line}
 use Rattle.definitions.specs.Premises.{ascending}
 use Rattle.plain_state.specs.declared.WorldTrain.{WorldTrain}
-use Rattle.plain_state.specs.World.{find_train, change_train, moved_train}
-use Rattle.plain_state.specs.Admits.{may_move_found}
+use Rattle.plain_state.specs.World.{find_train, change_train}
 use Rattle.track_points.specs.declared.ids.TrainId.{TrainId}
 use Rattle.world_sim.specs.Places.{place_of}
-use Rattle.world_sim.specs.World.{speed_fits, is_train, ascends, IsTrainOn, AllOn, AreKept}
+use Rattle.world_sim.specs.World.{is_kept, is_train, ascends, IsTrainOn, AllOn, AreKept}
 
 -- nothing found, nothing changed
 none_found : (t : ℕ) (f : WorldTrain → WorldTrain) (xs : List WorldTrain) → find_train t xs ≡ None → change_train t f xs ≡ xs
@@ -59,19 +58,19 @@ found_apart t u f (x ∷ xs) s n = by_test (nat_eq x.id.0 t)
     rw (e, s x, i) refl)
     (λ e. rw e (by_test (nat_eq x.id.0 u) (λ y. rw y refl) (λ z. rw z (found_apart t u f xs s n))))
 
--- trains that ascend leave the first one alone
-pub may_still : (line : Line) (x : TrainId × ℕ) (moves : List (TrainId × ℕ)) (t : ℕ) (trains : List WorldTrain) → x.0.0 ≤ t → ascending t moves ≡ true
-    → list_all (may_move_found trains) moves ≡ true → list_all (may_move_found (change_train x.0.0 (moved_train line x.1) trains)) moves ≡ true
+-- trains that ascend leave the first one alone: what is asked of the others holds still
+pub still : (test : Option WorldTrain → ℕ → Bool) (f : WorldTrain → WorldTrain) (u : ℕ) (moves : List (TrainId × ℕ)) (t : ℕ) (trains : List WorldTrain) → ((x : WorldTrain) → (f x).id ≡ x.id)
+    → u ≤ t → ascending t moves ≡ true → list_all (λ y. test (find_train y.0.0 trains) y.1) moves ≡ true → list_all (λ y. test (find_train y.0.0 (change_train u f trains)) y.1) moves ≡ true
 unfolding ascending
-may_still line x [] t trains l a h = refl
-may_still line x (y ∷ moves) t trains l a h =
+still test f u [] t trains same l a h = refl
+still test f u (y ∷ moves) t trains same l a h =
     let k = and_parts (nat_lt t y.0.0) (ascending y.0.0 moves) a in
-    let m = and_parts (may_move_found trains y) (list_all (may_move_found trains) moves) h in
+    let m = and_parts (test (find_train y.0.0 trains) y.1) (list_all (λ z. test (find_train z.0.0 trains) z.1) moves) h in
     let after : t < y.0.0 = let b = k.0 in grind (arith, nat_tests) in
-    let n : nat_eq x.0.0 y.0.0 ≡ false = grind (arith, nat_tests) in
-    let e = found_apart x.0.0 y.0.0 (moved_train line x.1) trains (λ z. refl) n in
-    let first : may_move_found (change_train x.0.0 (moved_train line x.1) trains) y ≡ true = rw e m.0 in
-    rw (first, may_still line x moves y.0.0 trains (omega arith) k.1 m.1) refl
+    let n : nat_eq u y.0.0 ≡ false = grind (arith, nat_tests) in
+    let e = found_apart u y.0.0 f trains same n in
+    let first : test (find_train y.0.0 (change_train u f trains)) y.1 ≡ true = rw e m.0 in
+    rw (first, still test f u moves y.0.0 trains same (omega arith) k.1 m.1) refl
 
 pub ascends_from : (t : ℕ) (moves : List (TrainId × ℕ)) → ascending t moves ≡ true → ascends moves ≡ true
 unfolding ascending
@@ -137,25 +136,24 @@ put_same xs i x y e h = ap (set xs i) (h ∙ e) ∙ set-get_or xs i x
 
 -- What a world keeps of its trains.
 
-speeds_set : (xs : List WorldTrain) (i : ℕ) (y : WorldTrain) → speed_fits y ≡ true → list_all speed_fits xs ≡ true → list_all speed_fits (set xs i y) ≡ true
-speeds_set [] i y h a = refl
-speeds_set (x ∷ xs) zero y h a = let k = and_parts (speed_fits x) (list_all speed_fits xs) a in let r = k.1 in rw (h, r) refl
-speeds_set (x ∷ xs) (suc i) y h a =
-    let k = and_parts (speed_fits x) (list_all speed_fits xs) a in let f = k.0 in let r = speeds_set xs i y h k.1 in rw (f, r) refl
+each_set : (xs : List WorldTrain) (i : ℕ) (y : WorldTrain) → is_kept y ≡ true → list_all is_kept xs ≡ true → list_all is_kept (set xs i y) ≡ true
+each_set [] i y h a = refl
+each_set (x ∷ xs) zero y h a = let k = and_parts (is_kept x) (list_all is_kept xs) a in let r = k.1 in rw (h, r) refl
+each_set (x ∷ xs) (suc i) y h a =
+    let k = and_parts (is_kept x) (list_all is_kept xs) a in let f = k.0 in let r = each_set xs i y h k.1 in rw (f, r) refl
 
-speed_at : (xs : List WorldTrain) (i : ℕ) (d : WorldTrain) → i < length xs → list_all speed_fits xs ≡ true → speed_fits (get_or xs i d) ≡ true
-speed_at [] i d l a = absurd (omega arith)
-speed_at (x ∷ xs) zero d l a = (and_parts (speed_fits x) (list_all speed_fits xs) a).0
-speed_at (x ∷ xs) (suc i) d l a = speed_at xs i d (omega arith) (and_parts (speed_fits x) (list_all speed_fits xs) a).1
+each_at : (xs : List WorldTrain) (i : ℕ) (d : WorldTrain) → i < length xs → list_all is_kept xs ≡ true → is_kept (get_or xs i d) ≡ true
+each_at [] i d l a = absurd (omega arith)
+each_at (x ∷ xs) zero d l a = (and_parts (is_kept x) (list_all is_kept xs) a).0
+each_at (x ∷ xs) (suc i) d l a = each_at xs i d (omega arith) (and_parts (is_kept x) (list_all is_kept xs) a).1
 
-pub speed_is : (places : List ℕ) (xs : List WorldTrain) (i : ℕ) (x : WorldTrain) → AreKept places xs → i < length xs → x ≡ get_or xs i x → speed_fits x ≡ true
-speed_is places xs i x k l e = ap speed_fits e ∙ speed_at xs i x l k.speeds
+pub kept_is : (places : List ℕ) (xs : List WorldTrain) (i : ℕ) (x : WorldTrain) → AreKept places xs → i < length xs → x ≡ get_or xs i x → is_kept x ≡ true
+kept_is places xs i x k l e = ap is_kept e ∙ each_at xs i x l k.each
 
--- a train changed that keeps its id and its speed
-pub kept_set : (places : List ℕ) (xs : List WorldTrain) (i : ℕ) (x y : WorldTrain) → AreKept places xs → i < length xs → x ≡ get_or xs i x → y.id ≡ x.id → y.speed ≡ x.speed
-    → AreKept places (set xs i y)
-kept_set places xs i x y k l e id speed = record {
-  speeds = speeds_set xs i y (ap (λ (n : ℕ). nat_lt n 65536) speed ∙ speed_is places xs i x k l e) k.speeds;
+-- a train changed that keeps its id
+pub kept_set : (places : List ℕ) (xs : List WorldTrain) (i : ℕ) (x y : WorldTrain) → AreKept places xs → x ≡ get_or xs i x → y.id ≡ x.id → is_kept y ≡ true → AreKept places (set xs i y)
+kept_set places xs i x y k e id kept = record {
+  each = each_set xs i y kept k.each;
   placed = λ t b.
       let same = position_or_len-set (is_train t) xs i y x (ap (λ (u : TrainId). nat_eq u.0 t) (id ∙ ap (λ (z : WorldTrain). z.id) e)) in
       rw (same, length-set xs i y) (k.placed t b);
@@ -180,11 +178,11 @@ pushed p xs x =
     (λ y. let m : nat_lt (length xs + 0) (length xs + 1) ≡ true = grind (arith, nat_tests) in rw (q, e, same, l, y, m, above) (ap (λ (k : ℕ). Some k) (omega arith)))
     (λ z. let m : nat_lt (length xs + 1) (length xs + 1) ≡ false = grind (arith, nat_tests) in rw (q, e, same, l, z, m, above) refl))
 
-pub kept_push : (places new : List ℕ) (xs : List WorldTrain) (n : ℕ) (x : WorldTrain) → AreKept places xs → n ≡ length xs → speed_fits x ≡ true
+pub kept_push : (places new : List ℕ) (xs : List WorldTrain) (n : ℕ) (x : WorldTrain) → AreKept places xs → n ≡ length xs → is_kept x ≡ true
     → ((t : ℕ) → place_of new t ≡ option_or (place_of places t) (if nat_eq x.id.0 t then Some n else None))
     → AreKept new (xs ++ x ∷ [])
-kept_push places new xs n x k e speed put = record {
-  speeds = let all = k.speeds in rw (list_all-append speed_fits xs (x ∷ []), all, speed) refl;
+kept_push places new xs n x k e kept put = record {
+  each = let all = k.each in rw (list_all-append is_kept xs (x ∷ []), all, kept) refl;
   placed = λ t b.
       put t
       ∙ (ap (λ (place : Option ℕ). option_or place (if nat_eq x.id.0 t then Some n else None)) (k.placed t b)

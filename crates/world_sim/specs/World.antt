@@ -1,33 +1,42 @@
 -- What the world keeps of its trains besides the definitions, and what its calls ask and answer.
-use Rattle.std.specs.Prelude.{ℕ, ◌≡◌, ◌<◌, ◌≤◌, ◌+◌, ◌-◌, ◌^◌, Bool, true, false, List, [], ◌∷◌, length, nat_lt, nat_eq, Option, Some, None, Result, Ok, Err, ⊤}
+use Rattle.std.specs.Prelude.{ℕ, ◌≡◌, ◌<◌, ◌≤◌, ◌+◌, ◌-◌, ◌^◌, Bool, true, false, ◌&&◌, List, [], ◌∷◌, length, nat_le, nat_lt, nat_eq, Option, Some, None, Result, Ok, Err, ⊤}
 use Rattle.std.specs.List.{list_all, position}
 use Rattle.track_points.specs.declared.ids.DirSeg.{DirSeg}
 use Rattle.track_points.specs.declared.ids.TrainId.{TrainId}
 use Rattle.track_points.specs.declared.path.Path.{Path}
-use Rattle.track_points.specs.Points.{Lengths, total, end_place}
+use Rattle.track_points.specs.Points.{Lengths, total}
 use Rattle.definitions.specs.declared.event.Event.{Event}
 use Rattle.definitions.specs.declared.event.Event.TheVariants.{Train, Step}
 use Rattle.definitions.specs.Track.{Line, seg_len, track_from, track_to}
 use Rattle.definitions.specs.Rules.{is_line}
 use Rattle.definitions.specs.Premises.{on_line, ascending}
 use Rattle.definitions.specs.Ways.{front_at}
-use Rattle.plain_state.specs.declared.EntryAuthority.{EntryAuthority}
+use Rattle.definitions.specs.Steps.{Effect, nothing, answers}
 use Rattle.plain_state.specs.declared.Head.{Head}
 use Rattle.plain_state.specs.declared.WorldTrain.{WorldTrain}
-use Rattle.plain_state.specs.World.{PlainWorld, auth_fits, lies_on, room_on}
+use Rattle.plain_state.specs.World.{PlainWorld, takes_at}
+use Rattle.onboard.specs.declared.onboard.Onboard.{Onboard}
+use Rattle.onboard.specs.declared.onboard.Verdict.{Verdict}
+use Rattle.onboard.specs.declared.onboard.Verdict.TheVariants.{Taken, Refused, Repeat}
+use Rattle.onboard.specs.Decision.{verdict}
 use Rattle.world_sim.specs.declared.world.Premise.{Premise}
 use Rattle.world_sim.specs.Places.{place_of}
 
--- a message carries the speed in 16 bits
-abbrev pub speed_fits : WorldTrain → Bool
-speed_fits x = nat_lt x.speed 65536
+-- a train has decided on a number exactly where it has come on
+abbrev pub is_numbered : Option Head → ℕ → Bool
+is_numbered None last = nat_eq last 0
+is_numbered (Some h) last = nat_lt 0 last
+
+-- what is kept of a train: its greatest speed and its pace have a stop, and its numbers begin when it comes on
+abbrev pub is_kept : WorldTrain → Bool
+is_kept x = nat_le x.speed 60000 && (nat_le x.pace.speed 60000 && is_numbered x.head x.onboard.last)
 
 abbrev pub is_train : ℕ → WorldTrain → Bool
 is_train t x = nat_eq x.id.0 t
 
--- what a world keeps of its trains: their speeds fit a message, and the places tell where the first of each id stands
+-- what a world keeps of its trains, and that the places tell where the first of each id stands
 pub record AreKept (places : List ℕ) (trains : List WorldTrain) : Type 0 where
-  pub speeds : list_all speed_fits trains ≡ true
+  pub each : list_all is_kept trains ≡ true
   pub placed : (t : ℕ) → t < 65536 → place_of places t ≡ position (is_train t) trains
 
 -- trains that ascend, from whichever is the first
@@ -35,9 +44,9 @@ abbrev pub ascends : List (TrainId × ℕ) → Bool
 ascends [] = true
 ascends (x ∷ moves) = ascending x.0.0 moves
 
--- a declaration needs room for one more train, and its speed fits a message; a step, a clock that does not run over
+-- a declaration needs room for one more train, and its speed has a stop; a step, a clock that does not run over
 abbrev pub StepFits : PlainWorld → Event → Type 0
-StepFits w (Train t long error speed kind) = (length w.trains < 256) × (speed < 2 ^ 16)
+StepFits w (Train t long error speed kind) = (length w.trains < 256) × (speed ≤ 60000)
 StepFits w (Step ms moves) = w.clock + ms < 2 ^ 63
 StepFits w _ = ⊤
 
@@ -70,15 +79,15 @@ HeadIs line room None = ⊤
 HeadIs line room (Some h) = IsHeadOn line room h
 
 -- an entry authority is over the whole segment of the first request for entry, and the train is no longer than it
-abbrev pub EntryIs : Line → ℕ → Option DirSeg → Option EntryAuthority → Type 0
+abbrev pub EntryIs : Line → ℕ → Option DirSeg → Option ℕ → Type 0
 EntryIs line long entry None = ⊤
-EntryIs line long None (Some authority) = ⊥
-EntryIs line long (Some step) (Some authority) = (on_line line step ≡ true) × (long ≤ authority.limit) × (authority.limit ≡ seg_len line step.seg.0)
+EntryIs line long None (Some mm) = ⊥
+EntryIs line long (Some step) (Some mm) = (on_line line step ≡ true) × (long ≤ mm) × (mm ≡ seg_len line step.seg.0)
 
 pub record IsTrainOn (line : Line) (x : WorldTrain) : Type 0 where
   pub long : 0 < x.train_length
-  pub entry : EntryIs line x.train_length x.entry x.authority
-  pub head : HeadIs line x.room x.head
+  pub entry : EntryIs line x.train_length x.entry x.onboard.entry
+  pub head : HeadIs line x.onboard.room x.head
 
 unfoldable pub AllOn : Line → List WorldTrain → Type 0
 AllOn line [] = ⊤
@@ -97,12 +106,14 @@ moved_to line st mark p = record {
   offset = (front_at (seg_len line) (track_to line (Some st) p) p).1;
 }
 
--- where the path of an authority ends; none where the authority is no authority on the line
-abbrev pub EndIs : Line → ℕ → Path → Option ℕ → Type 0
-EndIs line mark path (Some end) = (auth_fits line mark path ≡ true) × (end ≡ end_place (seg_len line) path)
-EndIs line mark path None = auth_fits line mark path ≡ false
+-- what a train answers to an authority; nothing before it has come on
+abbrev pub verdict_by : Lengths → ℕ → ℕ → ℕ → Path → Option Head → Onboard → Option Verdict
+verdict_by len stop number mark path None o = None
+verdict_by len stop number mark path (Some h) o = Some (verdict (takes_at len stop mark path h o) number o)
 
--- how far the end of an authority lies ahead of a head; none where the head does not lie on it
-abbrev pub RoomIs : Lengths → ℕ → Path → Head → Option ℕ → Type 0
-RoomIs len mark path h (Some room) = (lies_on len mark path h ≡ true) × (room ≡ room_on len mark path h)
-RoomIs len mark path h None = lies_on len mark path h ≡ false
+-- the answer to an authority of a zone, by what the train decided
+abbrev pub answering : ℕ → TrainId → ℕ → ℕ → Option Verdict → Effect
+answering time t zone number None = nothing
+answering time t zone number (Some Taken) = answers time t zone number true
+answering time t zone number (Some Refused) = answers time t zone number false
+answering time t zone number (Some (Repeat last was_taken)) = answers time t zone last was_taken

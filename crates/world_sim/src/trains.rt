@@ -1,19 +1,21 @@
 //! What the steps of a train make of it.
-ghost use Rattle.std.specs.Prelude.{ℕ, ◌≡◌, ◌≤◌, ◌+◌, true, Some, None, is_some, if◌then◌else◌};
-ghost use Rattle.track_points.specs.Points.{step_eq, end_place};
+ghost use Rattle.std.specs.Prelude.{ℕ, ◌≡◌, ◌≤◌, ◌<◌, ◌+◌, ◌*◌, ◌/◌, true, Some, None, is_some, if◌then◌else◌};
+ghost use Rattle.track_points.specs.Points.{step_eq};
 ghost use Rattle.definitions.specs.Track.{seg_len, has_segment, next_step};
 ghost use Rattle.definitions.specs.Rules.{is_line};
 ghost use Rattle.definitions.specs.Premises.{same_portal, on_line};
 ghost use Rattle.definitions.specs.Story.{or_else};
-ghost use Rattle.plain_state.specs.World.{kept_limit, asked_at_portal, head_at_entry, come_on, moved_train, authority_if_first, alone_on, covers_portal, acted_on_by, took_by, took_auth};
+ghost use Rattle.onboard.specs.Decision.{mm_or_0, verdict};
+ghost use Rattle.plain_state.specs.World.{new_train, asked_at_portal, head_at_entry, come_on, paced, moved_train, last_speed, leads_through, takes_at, auth_fits, alone_on, covers_portal, acted_on_by, took_by};
 ghost use Rattle.plain_state.specs.Admits.{reports_head};
-ghost use Rattle.world_sim.specs.World.{moved_to, Reaches, HeadIs, EndIs, RoomIs};
+ghost use Rattle.world_sim.specs.World.{is_kept, moved_to, Reaches, HeadIs, verdict_by};
 
 use line_map::{After, Line};
-use plain_state::{EntryAuthority, Head, WorldTrain};
-use track_points::{DirSeg, Path, same_dir};
+use onboard::{Onboard, Verdict};
+use plain_state::{Head, Pace, WorldTrain};
+use track_points::{DirSeg, Path, TrainId, same_dir};
 use way_path::Way;
-use way_path::on_steps::{length_of, total};
+use way_path::on_steps::length_of;
 
 pub fn same_step(a: DirSeg, b: DirSeg) -> bool
     ensures { result ≡ step_eq a b }
@@ -31,18 +33,18 @@ pub fn is_same_portal(step: DirSeg, first: Option<DirSeg>) -> bool
     }
 }
 
-/// Where an authority ends, in mm from the start of its path; none where its path is no path on the line, or where its
-/// mark and its steps are more than a mark can count.
+/// Whether an authority is one on the line: its path is a path there, and its mark and its steps are no more than a mark can
+/// count.
 #[tactic(auto, using(crate::proofs::Unfit::unfit))]
-pub fn end_of(line: &Line, mark: u32, path: &Path) -> Option<u32>
-    ensures { EndIs line.now mark path.now result }
+pub fn fits_line(line: &Line, mark: u32, path: &Path) -> bool
+    ensures { result ≡ auth_fits line.now mark path.now }
 {
     if u64::from(mark) + path.steps.as_slice().len() as u64 > u64::from(u32::MAX) {
-        return None;
+        return false;
     }
     match Way::of_path(line, mark, path) {
-        Ok(way) => Some(way.end()),
-        Err(_) => None,
+        Ok(_) => true,
+        Err(_) => false,
     }
 }
 
@@ -76,32 +78,20 @@ fn first_step(kept: Option<DirSeg>, step: DirSeg) -> Option<DirSeg>
     }
 }
 
-fn first_authority(
-    kept: Option<EntryAuthority>,
-    from: u8,
-    limit: u32,
-    number: u32,
-) -> Option<EntryAuthority>
-    ensures { result ≡ or_else kept (authority_if_first from limit number) }
+/// A train that is declared: its length and its greatest error in mm, its greatest speed in mm/s.
+pub fn declared(id: TrainId, train_length: u32, error: u32, speed: u32) -> WorldTrain
+    ensures { result ≡ new_train id train_length error speed }
 {
-    match kept {
-        Some(authority) => Some(authority),
-        None => {
-            if number == 1 {
-                Some(EntryAuthority { zone: from, limit })
-            } else {
-                None
-            }
-        }
-    }
-}
-
-fn kept_limit(authority: Option<EntryAuthority>) -> u32
-    ensures { result ≡ kept_limit authority }
-{
-    match authority {
-        Some(authority) => authority.limit,
-        None => 0,
+    WorldTrain {
+        id,
+        train_length,
+        error,
+        speed,
+        entry: None,
+        sender: None,
+        head: None,
+        pace: Pace { speed: 0, at: 0 },
+        onboard: Onboard::new(),
     }
 }
 
@@ -126,12 +116,14 @@ fn first_head(entry: Option<DirSeg>, train_length: u32) -> Option<Head>
 }
 
 /// A train comes on.
-pub fn come_on(train: &mut WorldTrain)
+pub fn come_on(line: &Line, train: &mut WorldTrain)
+    requires holds { is_some train.old.onboard.entry ≡ true }
+    requires fits { train.old.train_length ≤ mm_or_0 train.old.onboard.entry }
+    requires before { train.old.onboard.last ≡ 0 }
     ensures { train.new ≡ come_on train.old }
 {
     train.head = first_head(train.entry, train.train_length);
-    train.room = kept_limit(train.authority).saturating_sub(train.train_length);
-    train.last = 1;
+    train.onboard.enter(line, train.train_length);
 }
 
 /// The step that follows one on the track.
@@ -169,42 +161,58 @@ fn moved(line: &Line, head: Head, mm: u32) -> Head
     }
 }
 
-/// The head of a train moves on so many mm.
+/// The pace of a train that moves by so many mm in a step of so many ms, after which the clock is this.
+#[tactic(auto, using(crate::proofs::Pace_most::pace_most))]
+fn paced(ms: u32, clock: u64, mm: u32, pace: Pace) -> Pace
+    requires { mm ≤ 60000 * ms / 1000 }
+    ensures { result ≡ paced ms clock mm pace }
+{
+    if mm == 0 {
+        return pace;
+    }
+    Pace {
+        speed: (u64::from(mm) * 1000).div_ceil(u64::from(ms)) as u32,
+        at: clock,
+    }
+}
+
+/// The head of a train moves on so many mm, in a step of so many ms, after which the clock is this.
 #[tactic(auto, using(crate::proofs::Moves_on::reach_less))]
-pub fn move_on(line: &Line, train: &mut WorldTrain, mm: u32)
+pub fn move_on(line: &Line, train: &mut WorldTrain, ms: u32, clock: u64, mm: u32)
     requires valid { is_line line.now ≡ true }
-    requires head { HeadIs line.now train.old.room train.old.head }
-    requires room { mm ≤ train.old.room }
-    ensures { train.new ≡ moved_train line.now mm train.old }
+    requires head { HeadIs line.now train.old.onboard.room train.old.head }
+    requires entered { 0 < train.old.onboard.last }
+    requires room { mm ≤ train.old.onboard.room }
+    requires speed { mm ≤ 60000 * ms / 1000 }
+    ensures { train.new ≡ moved_train line.now ms clock mm train.old }
 {
     if let Some(head) = train.head {
         train.head = Some(moved(line, head, mm));
     }
-    train.room -= mm;
+    train.pace = paced(ms, clock, mm, train.pace);
+    train.onboard.moved(mm);
 }
 
-/// How far the end of an authority lies ahead of a head; none where the head does not lie on it.
-fn room_on(line: &Line, mark: u32, path: &Path, end: u32, head: Head) -> Option<u32>
-    requires { end ≡ end_place (seg_len line.now) path.now }
-    ensures { RoomIs (seg_len line.now) mark path.now head result }
+/// How fast a train went in the last step: not at all where that did not move it.
+pub fn last_speed(clock: u64, pace: Pace) -> u32
+    ensures { result ≡ last_speed clock pace }
 {
-    if head.mark < mark {
-        return None;
-    }
-    let steps = path.steps.as_slice();
-    let index = (head.mark - mark) as usize;
-    if index >= steps.len() || !same_step(steps[index], head.step) {
-        return None;
-    }
-    let place = u64::from(total(line, &steps[..index])) + u64::from(head.offset);
-    if place <= u64::from(end) {
-        Some(end - place as u32)
-    } else {
-        None
-    }
+    if pace.at == clock { pace.speed } else { 0 }
 }
 
-/// A train on the line takes an authority, where its head lies on one of a new number. Whether it acts on it.
+/// Whether a path has the head's step behind the same number of steps.
+fn leads_through(mark: u32, path: &Path, head: Head) -> bool
+    ensures { result ≡ leads_through mark path.now head }
+{
+    let steps = path.steps.as_slice();
+    if head.mark < mark || (head.mark - mark) as usize >= steps.len() {
+        return false;
+    }
+    same_step(steps[(head.mark - mark) as usize], head.step)
+}
+
+/// A train on the line, which needs so many mm to stop, decides on an authority: it refuses one whose path does not lead
+/// through its head.
 fn take_on_line(
     line: &Line,
     train: &mut WorldTrain,
@@ -212,46 +220,34 @@ fn take_on_line(
     number: u32,
     mark: u32,
     path: &Path,
-    end: u32,
-) -> bool
-    requires { end ≡ end_place (seg_len line.now) path.now }
-    ensures acts_on { result ≡ acted_on_by (seg_len line.now) train.old (Some head) number mark path.now }
-    ensures next { (from : ℕ) → train.new ≡ (if result then took_by (seg_len line.now) from number mark path.now (Some head) train.old else train.old) }
+    stop: u32,
+) -> Verdict
+    requires entered { 0 < train.old.onboard.last }
+    ensures answer { result ≡ verdict (takes_at (seg_len line.now) stop mark path.now head train.old.onboard) number train.old.onboard }
+    ensures next { (from : ℕ) → train.new ≡ took_by (seg_len line.now) stop from number mark path.now (Some head) train.old }
 {
-    if train.last < number {
-        let Some(room) = room_on(line, mark, path, end, head) else {
-            return false;
-        };
-        train.room = room;
+    if leads_through(mark, path, head) {
+        train
+            .onboard
+            .take_auth(line, number, mark, path, head.mark, head.offset, stop)
+    } else {
+        train.onboard.refuse(number)
     }
-    train.last = train.last.max(number);
-    true
 }
 
 /// A train that has not come on takes an authority. One that could be its entry authority, and does not fit its request, it
-/// does not act on. Whether it acts on it.
-fn take_before(
-    line: &Line,
-    train: &mut WorldTrain,
-    from: u8,
-    number: u32,
-    mark: u32,
-    path: &Path,
-    end: u32,
-) -> bool
-    requires { end ≡ end_place (seg_len line.now) path.now }
-    ensures acts_on { result ≡ acted_on_by (seg_len line.now) train.old None number mark path.now }
-    ensures next { train.new ≡ (if result then took_by (seg_len line.now) from number mark path.now None train.old else train.old) }
+/// does not act on.
+fn take_before(line: &Line, train: &mut WorldTrain, from: u8, number: u32, mark: u32, path: &Path)
+    ensures { (stop : ℕ) → train.new ≡ (if acted_on_by (seg_len line.now) train.old None number mark path.now then took_by (seg_len line.now) stop from number mark path.now None train.old else train.old) }
 {
-    let fits = mark == 0 && covers_portal(line, train.entry, train.train_length, path);
-    let acts_on = train.authority.is_some() || number != 1 || fits;
-    if acts_on {
-        train.authority = first_authority(train.authority, from, end, number);
+    let is_first = number == 1 && train.onboard.entry().is_none();
+    if is_first && mark == 0 && covers_portal(line, train.entry, train.train_length, path) {
+        train.sender = Some(from);
+        train.onboard.keep_entry(line, path);
     }
-    acts_on
 }
 
-/// A train takes an authority that ends at this place of its path. Whether it acts on it.
+/// A train, which needs so many mm to stop, takes an authority. What it answers; nothing before it has come on.
 pub fn take_authority(
     line: &Line,
     train: &mut WorldTrain,
@@ -259,15 +255,18 @@ pub fn take_authority(
     number: u32,
     mark: u32,
     path: &Path,
-    end: u32,
-) -> bool
-    requires { end ≡ end_place (seg_len line.now) path.now }
-    ensures acts_on { result ≡ acted_on_by (seg_len line.now) train.old train.old.head number mark path.now }
-    ensures next { train.new ≡ (if result then took_auth (seg_len line.now) from number mark path.now train.old else train.old) }
+    stop: u32,
+) -> Option<Verdict>
+    requires kept { is_kept train.old ≡ true }
+    ensures answer { result ≡ verdict_by (seg_len line.now) stop number mark path.now train.old.head train.old.onboard }
+    ensures next { train.new ≡ (if acted_on_by (seg_len line.now) train.old train.old.head number mark path.now then took_by (seg_len line.now) stop from number mark path.now train.old.head train.old else train.old) }
 {
     match train.head {
-        None => take_before(line, train, from, number, mark, path, end),
-        Some(head) => take_on_line(line, train, head, number, mark, path, end),
+        None => {
+            take_before(line, train, from, number, mark, path);
+            None
+        }
+        Some(head) => Some(take_on_line(line, train, head, number, mark, path, stop)),
     }
 }
 

@@ -1,33 +1,37 @@
 //! The world, by its clock and its trains.
-ghost use Rattle.std.specs.Prelude.{◌≡◌, ◌+◌, ◌++◌, ◌∷◌, ◌<◌, ◌^◌, [], true, length, Some, IfOk, IfSome, is_some, ◌&&◌, not, nat_le, ◌*◌, ◌/◌};
+ghost use Rattle.std.specs.Prelude.{◌≡◌, ◌+◌, ◌++◌, ◌∷◌, ◌<◌, ◌≤◌, [], true, length, Some, IfOk, IfSome, is_some, ◌&&◌, not, nat_le, ◌*◌, ◌/◌};
 ghost use Rattle.std.specs.List.{list_all, position};
 ghost use Rattle.std.specs.Option.{option_copied};
-ghost use Rattle.track_points.specs.Points.{end_place};
-ghost use Rattle.definitions.specs.Track.{seg_len};
+ghost use Rattle.definitions.specs.Track.{zone_of};
 ghost use Rattle.definitions.specs.Rules.{is_line};
-ghost use Rattle.definitions.specs.Steps.{nothing, answers, entering, requesting, taking_auth, telling, hearing_noise};
+ghost use Rattle.definitions.specs.Steps.{nothing, answers, entering, requesting, telling, hearing_noise};
 ghost use Rattle.definitions.specs.Frames.{frame_at};
 ghost use Rattle.definitions.specs.declared.message.Msg.TheVariants as msg;
 ghost use Rattle.definitions.specs.Premises.{same_portal};
-ghost use Rattle.plain_state.specs.World.{find_train, change_train, facts_found, entry_found, kept_sender, authority_found, head_found, on_found, number_found, mark_of, new_train, asked_at_portal, come_on, moved_train, trains_moved, auth_fits, world_event_effect, world_event_next, world_take_effect, world_take_next};
+ghost use Rattle.plain_state.specs.World.{find_train, change_train, with_trains, facts_found, entry_found, sender_found, authorized_found, head_found, on_found, mark_of, new_train, asked_at_portal, come_on, moved_train, trains_moved, auth_fits, world_event_effect, world_event_next, world_take_effect, world_take_next};
 ghost use Rattle.plain_state.specs.Plain.{world_start};
 ghost use Rattle.plain_state.specs.Admits.{world_reports, world_moves, world_stops, world_enters, hears_noise, world_premise, can_move_found, may_move_found};
-ghost use Rattle.world_sim.specs.World.{speed_fits, is_train, ascends, StepFits, IsBuilt, Admits, AllOn, IsWorldOn};
+ghost use Rattle.world_sim.specs.World.{is_kept, is_train, ascends, StepFits, IsBuilt, Admits, AllOn, IsWorldOn, answering};
 
 use crate::places::TrainPlaces;
-use crate::trains::{ask_entry, come_on, end_of, is_same_portal, move_on, reports, take_authority};
+use crate::trains::{
+    ask_entry, come_on, declared, fits_line, is_same_portal, last_speed, move_on, reports,
+    take_authority,
+};
 use arrayvec::ArrayVec;
+use braking_table::Table;
 use definitions::event::Event;
-use definitions::message::Msg;
+use definitions::message::{Msg, Order};
 use definitions::outcome::{AnswerWord, Outcome};
 use line_map::Line;
 use msg_codec::{Outs, decode};
-use plain_state::{EntryAuthority, WorldTrain};
+use onboard::Verdict;
+use plain_state::{Pace, WorldTrain};
 use std::alloc::{AllocError, Global};
 use std::marker::Model;
 use thiserror::Error;
 use track_points::path::copy_steps;
-use track_points::{DirSeg, Path, TrainId, ZoneId};
+use track_points::{DirSeg, Path, SegId, TrainId, ZoneId};
 use way_path::on_steps::zone_of;
 
 /// The number of the least premise that an event breaks.
@@ -36,9 +40,9 @@ use way_path::on_steps::zone_of;
 pub struct Premise(pub u8);
 
 /// Sends an answer to the zone that sent the authority, and tells it.
-fn answer(time: u64, train: TrainId, zone: u8, number: u32, outs: &mut Outs)
+fn answer(time: u64, train: TrainId, zone: u8, number: u32, taken: bool, outs: &mut Outs)
     requires { outs.old ≡ nothing }
-    ensures { outs.new ≡ answers time train zone number }
+    ensures { outs.new ≡ answers time train zone number taken }
 {
     outs.send(
         zone,
@@ -46,16 +50,21 @@ fn answer(time: u64, train: TrainId, zone: u8, number: u32, outs: &mut Outs)
             train,
             time,
             number,
-            taken: true,
+            taken,
         },
     );
-    outs.tell(Outcome::Answer(train, number, AnswerWord::Taken));
+    let word = if taken {
+        AnswerWord::Taken
+    } else {
+        AnswerWord::Refused
+    };
+    outs.tell(Outcome::Answer(train, number, word));
 }
 
 /// Sends the request for entry, to the portal's zone.
 fn request(time: u64, train: &WorldTrain, id: TrainId, step: DirSeg, zone: u8, outs: &mut Outs)
     requires empty { outs.old ≡ nothing }
-    requires speed { speed_fits train.now ≡ true }
+    requires kept { is_kept train.now ≡ true }
     ensures { outs.new ≡ requesting time id step zone (facts_found (Some train.now)) }
 {
     outs.send(
@@ -95,36 +104,42 @@ fn ask(
     );
 }
 
-/// A train that is on the line or not, of this last number, answers an authority: a new number as taken, an old one as it
-/// was answered last.
+/// Sends an order about a segment to the segment's zone.
+fn order(line: &Line, time: u64, seg: SegId, order: Order, outs: &mut Outs)
+    requires { outs.old ≡ nothing }
+    ensures { outs.new ≡ telling (zone_of line.now seg.0) (msg.Order time order) }
+{
+    outs.send(zone_of(line, seg), Msg::Order { time, order });
+}
+
+/// A train answers an authority of a number: by what it decided, or as it was answered last; not at all before it has come
+/// on.
 fn auth_answer(
     time: u64,
-    on: bool,
-    last: u32,
+    verdict: Option<Verdict>,
     train: TrainId,
     from: u8,
     number: u32,
     outs: &mut Outs,
 )
     requires { outs.old ≡ nothing }
-    ensures { outs.new ≡ taking_auth time on last train from number }
+    ensures { outs.new ≡ answering time train from number verdict }
 {
-    if on {
-        if last < number {
-            answer(time, train, from, number, outs);
-        } else {
-            answer(time, train, from, last, outs);
-        }
+    match verdict {
+        None => {}
+        Some(Verdict::Taken) => answer(time, train, from, number, true, outs),
+        Some(Verdict::Refused) => answer(time, train, from, number, false, outs),
+        Some(Verdict::Repeat(last, taken)) => answer(time, train, from, last, taken, outs),
     }
 }
 
 /// A train that comes on answers its entry authority.
-fn answer_entry(time: u64, authority: Option<EntryAuthority>, train: TrainId, outs: &mut Outs)
+fn answer_entry(time: u64, sender: Option<u8>, train: TrainId, outs: &mut Outs)
     requires { outs.old ≡ nothing }
-    ensures { outs.new ≡ entering time train (kept_sender authority) }
+    ensures { outs.new ≡ entering time train sender }
 {
-    if let Some(authority) = authority {
-        answer(time, train, authority.zone, 1, outs);
+    if let Some(zone) = sender {
+        answer(time, train, zone, 1, true, outs);
     }
 }
 
@@ -145,10 +160,11 @@ fn is_within(speed: u32, ms: u32, mm: u32) -> bool
     u64::from(mm) <= u64::from(speed) * u64::from(ms) / 1000
 }
 
-/// The clock in ms, the trains of the world, and where each stands among them. Room for 256 trains is reserved when it is
-/// made.
+/// The stops of the line's trains, the clock in ms, the trains of the world, and where each stands among them. Room for
+/// 256 trains is reserved when it is made.
 #[derive(Drop)]
 pub struct World {
+    stops: Table,
     clock: u64,
     trains: Vec<WorldTrain>,
     places: TrainPlaces,
@@ -161,7 +177,7 @@ impl Model for World {
 
     ghost Value = { PlainWorld };
 
-    ghost view = { λ w. record { clock = w.clock; trains = w.trains.items } };
+    ghost view = { λ w. record { brake = w.stops; clock = w.clock; trains = w.trains.items } };
 
     ghost invariant = { λ w. (256 ≤ vec_capacity w.trains) × AreKept w.places w.trains.items };
 }
@@ -169,9 +185,13 @@ impl Model for World {
 impl World {
     /// A world of no trains, at the time 0.
     pub fn start(alloc: Global, line: &Line) -> Result<World, AllocError>
-        ensures { IfOk result (λ w. w ≡ world_start) }
+        ensures { IfOk result (λ w. w ≡ world_start line.now) }
     {
+        let Ok(stops) = Table::new(line.brake()) else {
+            unreachable!()
+        };
         Ok(World {
+            stops,
             clock: 0,
             trains: Vec::with_capacity(alloc, 256)?,
             places: TrainPlaces::new(alloc)?,
@@ -210,7 +230,7 @@ impl World {
     /// The first train of this id, where it stands.
     fn get(&self, train: TrainId) -> Option<&WorldTrain>
         ensures found { option_copied result ≡ find_train train.0 self.now.trains }
-        ensures fits { IfSome result (λ x. speed_fits x.now ≡ true) }
+        ensures kept { IfSome result (λ x. is_kept x.now ≡ true) }
     {
         match self.place(train) {
             Some(i) => Some(&self.trains[i]),
@@ -221,7 +241,7 @@ impl World {
     /// The first train of this id.
     pub fn find(&self, train: TrainId) -> Option<WorldTrain>
         ensures found { result ≡ find_train train.0 self.now.trains }
-        ensures fits { IfSome result (λ x. speed_fits x ≡ true) }
+        ensures kept { IfSome result (λ x. is_kept x ≡ true) }
     {
         self.get(train).copied()
     }
@@ -271,7 +291,7 @@ impl World {
         ensures { result ≡ may_move_found self.now.trains (train, mm) }
     {
         match self.get(train) {
-            Some(found) => found.head.is_some() && mm <= found.room,
+            Some(found) => found.head.is_some() && mm <= found.onboard.room(),
             None => false,
         }
     }
@@ -305,10 +325,10 @@ impl World {
 
     /// Whether a train may come on: once, and holding its entry authority.
     fn may_come_on(&self, train: TrainId) -> bool
-        ensures { result ≡ (is_some (authority_found (find_train train.0 self.now.trains)) && not (on_found (find_train train.0 self.now.trains))) }
+        ensures { result ≡ (authorized_found (find_train train.0 self.now.trains) && not (on_found (find_train train.0 self.now.trains))) }
     {
         match self.get(train) {
-            Some(found) => found.authority.is_some() && found.head.is_none(),
+            Some(found) => found.onboard.entry().is_some() && found.head.is_none(),
             None => false,
         }
     }
@@ -360,28 +380,19 @@ impl World {
     /// Declares a train: its length and its greatest error in mm, its greatest speed in mm/s.
     fn declare(&mut self, train: TrainId, train_length: u32, error: u32, speed: u32)
         requires room { length self.old.trains < 256 }
-        requires speed { speed < 2 ^ 16 }
-        ensures { self.new ≡ record { clock = self.old.clock; trains = self.old.trains ++ new_train train train_length error speed ∷ [] } }
+        requires speed { speed ≤ 60000 }
+        ensures { self.new ≡ with_trains self.old (self.old.trains ++ new_train train train_length error speed ∷ []) }
     {
         self.places.put(train, self.trains.len());
-        let _ = self.trains.push(WorldTrain {
-            id: train,
-            train_length,
-            error,
-            speed,
-            entry: None,
-            authority: None,
-            head: None,
-            room: 0,
-            last: 0,
-        });
+        let declared = declared(train, train_length, error, speed);
+        let _ = self.trains.push(declared);
     }
 
     /// The train asks for entry at a step, to this zone.
     fn entry(&mut self, train: TrainId, step: DirSeg, zone: u8, outs: &mut Outs)
         requires { outs.old ≡ nothing }
         ensures gives { outs.new ≡ requesting self.old.clock train step zone (facts_found (find_train train.0 self.old.trains)) }
-        ensures next { self.new ≡ record { clock = self.old.clock; trains = change_train train.0 (asked_at_portal step) self.old.trains } }
+        ensures next { self.new ≡ with_trains self.old (change_train train.0 (asked_at_portal step) self.old.trains) }
     {
         if let Some(i) = self.place(train) {
             request(self.clock, &self.trains[i], train, step, zone, outs);
@@ -390,40 +401,45 @@ impl World {
     }
 
     /// The train comes on, and answers its entry authority.
-    fn enter(&mut self, train: TrainId, outs: &mut Outs)
-        requires { outs.old ≡ nothing }
-        ensures gives { outs.new ≡ entering self.old.clock train (authority_found (find_train train.0 self.old.trains)) }
-        ensures next { self.new ≡ record { clock = self.old.clock; trains = change_train train.0 come_on self.old.trains } }
+    fn enter(&mut self, line: &Line, train: TrainId, outs: &mut Outs)
+        requires empty { outs.old ≡ nothing }
+        requires each { AllOn line.now self.old.trains }
+        requires holds { authorized_found (find_train train.0 self.old.trains) ≡ true }
+        requires before { not (on_found (find_train train.0 self.old.trains)) ≡ true }
+        ensures gives { outs.new ≡ entering self.old.clock train (sender_found (find_train train.0 self.old.trains)) }
+        ensures next { self.new ≡ with_trains self.old (change_train train.0 come_on self.old.trains) }
     {
         if let Some(i) = self.place(train) {
-            answer_entry(self.clock, self.trains[i].authority, train, outs);
-            come_on(&mut self.trains[i]);
+            answer_entry(self.clock, self.trains[i].sender, train, outs);
+            come_on(line, &mut self.trains[i]);
         }
     }
 
-    /// A train moves on so many mm.
-    fn move_on(&mut self, line: &Line, train: TrainId, mm: u32)
+    /// A train moves on so many mm, in a step of so many ms, which the clock counts already.
+    fn move_on(&mut self, line: &Line, ms: u32, train: TrainId, mm: u32)
         requires valid { is_line line.now ≡ true }
         requires each { AllOn line.now self.old.trains }
+        requires can { can_move_found ms self.old.trains (train, mm) ≡ true }
         requires may { may_move_found self.old.trains (train, mm) ≡ true }
-        ensures { self.new ≡ record { clock = self.old.clock; trains = change_train train.0 (moved_train line.now mm) self.old.trains } }
+        ensures { self.new ≡ with_trains self.old (change_train train.0 (moved_train line.now ms self.old.clock mm) self.old.trains) }
     {
         if let Some(i) = self.place(train) {
-            move_on(line, &mut self.trains[i], mm);
+            move_on(line, &mut self.trains[i], ms, self.clock, mm);
         }
     }
 
-    /// Trains move on, each so many mm.
+    /// Trains move on, each so many mm, in a step of so many ms, which the clock counts already.
     #[tactic(auto, unfolding(plain_state::specs::World::trains_moved))]
-    fn go(&mut self, line: &Line, moves: &[(TrainId, u32)])
+    fn go(&mut self, line: &Line, ms: u32, moves: &[(TrainId, u32)])
         requires valid { is_line line.now ≡ true }
         requires each { AllOn line.now self.old.trains }
         requires ascend { ascends moves.now ≡ true }
+        requires can { list_all (can_move_found ms self.old.trains) moves.now ≡ true }
         requires may { list_all (may_move_found self.old.trains) moves.now ≡ true }
-        ensures { self.new ≡ record { clock = self.old.clock; trains = trains_moved line.now moves.now self.old.trains } }
+        ensures { self.new ≡ with_trains self.old (trains_moved line.now ms self.old.clock moves.now self.old.trains) }
     {
         for (train, mm) in moves {
-            self.move_on(line, *train, *mm);
+            self.move_on(line, ms, *train, *mm);
         }
     }
 
@@ -451,7 +467,7 @@ impl World {
         );
     }
 
-    /// An authority that ends at this place of its path is taken, where the train acts on it.
+    /// An authority on the line is taken, where the train acts on it.
     fn take_auth(
         &mut self,
         line: &Line,
@@ -460,21 +476,18 @@ impl World {
         number: u32,
         mark: u32,
         path: &Path,
-        end: u32,
         outs: &mut Outs,
     )
         requires empty { outs.old ≡ nothing }
         requires fits { auth_fits line.now mark path.now ≡ true }
-        requires end { end ≡ end_place (seg_len line.now) path.now }
         ensures gives { outs.new ≡ world_take_effect line.now self.old from (msg.Auth train number mark path.now) }
         ensures next { self.new ≡ world_take_next line.now self.old from (msg.Auth train number mark path.now) }
     {
         if let Some(i) = self.place(train) {
             let found = &mut self.trains[i];
-            let (on, last) = (found.head.is_some(), found.last);
-            if take_authority(line, found, from, number, mark, path, end) {
-                auth_answer(self.clock, on, last, train, from, number, outs);
-            }
+            let stop = self.stops.stop(last_speed(self.clock, found.pace));
+            let verdict = take_authority(line, found, from, number, mark, path, stop);
+            auth_answer(self.clock, verdict, train, from, number, outs);
         }
     }
 
@@ -494,8 +507,8 @@ impl World {
             path,
         } = message
         {
-            if let Some(end) = end_of(line, *mark, path) {
-                self.take_auth(line, from, *train, *number, *mark, path, end, outs);
+            if fits_line(line, *mark, path) {
+                self.take_auth(line, from, *train, *number, *mark, path, outs);
             }
         }
     }
@@ -507,7 +520,9 @@ impl World {
         requires fits { StepFits self.old event.now }
         requires built { IsBuilt event.now }
         requires on { IsWorldOn line.now self.old }
+        requires moves { world_moves self.old event.now ≡ true }
         requires stops { world_stops self.old event.now ≡ true }
+        requires enters { world_enters self.old event.now ≡ true }
         ensures gives { outs.new ≡ world_event_effect line.now self.old event.now }
         ensures next { self.new ≡ world_event_next line.now self.old event.now }
     {
@@ -518,13 +533,13 @@ impl World {
             Event::Entry(train, step) => {
                 self.entry(*train, *step, zone_of(line, step.seg), outs)
             }
-            Event::Enter(train) => self.enter(*train, outs),
+            Event::Enter(train) => self.enter(line, *train, outs),
             Event::Ask(train, zone, steps, to) => {
                 ask(self.clock, *train, *zone, steps, *to, outs)
             }
             Event::Step(ms, moves) => {
                 self.clock += u64::from(*ms);
-                self.go(line, moves.as_slice());
+                self.go(line, *ms, moves.as_slice());
             }
             Event::Report(train, zone, _, offset, whole) => {
                 self.report(*train, *zone, *offset, *whole, outs)
@@ -536,13 +551,15 @@ impl World {
                     train: *train,
                 },
             ),
+            Event::Close(seg) => order(line, self.clock, *seg, Order::Close(*seg), outs),
+            Event::Open(seg) => order(line, self.clock, *seg, Order::Open(*seg), outs),
             Event::Noise(to, _, bytes) => hear(*to, bytes.as_slice(), outs),
             _ => {}
         }
     }
 
     /// An event of the world's own.
-    #[tactic(auto, using(crate::proofs::Event_stays::event_stays, crate::proofs::Event_stays::stops))]
+    #[tactic(auto, using(crate::proofs::Event_stays::event_stays, crate::proofs::Event_stays::moves, crate::proofs::Event_stays::stops, crate::proofs::Event_stays::enters))]
     pub fn step(&mut self, line: &Line, event: &Event, outs: &mut Outs)
         requires empty { outs.old ≡ nothing }
         requires fits { StepFits self.old event.now }

@@ -1,5 +1,5 @@
--- The walks find the first number that passes, from one on.
-use Rattle.std.proofs.Common.{◌≡◌, ℕ, suc, zero, ◌+◌, ◌-◌, ◌<◌, ◌≤◌, min, Bool, true, false, ◌&&◌, ◌||◌, List, [], ◌∷◌, refl, sym, arith, nat_eq, nat_lt, nat_le}
+-- The walks over the trains find the first offset of a step that is held, and so the walk over the steps the first place.
+use Rattle.std.proofs.Common.{◌≡◌, ℕ, suc, zero, ◌-◌, ◌<◌, ◌≤◌, min, Bool, true, false, ◌&&◌, ◌||◌, List, [], ◌∷◌, refl, sym, arith, nat_eq, nat_lt, nat_le}
 use Rattle.std.proofs.lemmas.Bool.Decides.{nat_tests}
 use Rattle.list_laws.proofs.By_test.{by_test, same_bool}
 use Rattle.track_points.specs.declared.ids.Dir.{Dir}
@@ -12,27 +12,10 @@ use Rattle.definitions.specs.Limit.{on_step, passes}
 use Rattle.plain_state.specs.declared.Controlled.{Controlled}
 use Rattle.plain_state.specs.Zone.{held_else_plain, barring_plain, train_on}
 use Rattle.zone_reach.specs.Held.{cells_on, first_in, near_step, near_steps, near_train, near_trains, near_on, first_held}
+use Rattle.zone_reach.proofs.First_place_is.{IsNearest, nearest_same, nearest_none, IsTested, first_place_is, none_behind}
 use Rattle.way_path.specs.Ways.{step_has}
 use Rattle.way_path.proofs.As_points.{points_none, cells_first}
 use Rattle.way_laws.proofs.No_throat.{cell_alone}
-
--- the least number from `from` on and below n that passes, or n
-pub record IsNearest (test : ℕ → Bool) (n from q : ℕ) : Type 0 where
-  pub within : q ≤ n
-  pub after : q < n → from ≤ q
-  pub there : q < n → test q ≡ true
-  pub before : (k : ℕ) → from ≤ k → k < q → test k ≡ false
-
-pub nearest_same : (a b : ℕ → Bool) (n from q : ℕ) → ((k : ℕ) → k < n → b k ≡ a k) → IsNearest a n from q → IsNearest b n from q
-nearest_same a b n from q e i = record {
-  within = i.within;
-  after = i.after;
-  there = λ h. rw (e q h) (i.there h);
-  before = λ k f h. let w = i.within in rw (e k (omega arith)) (i.before k f h);
-}
-
-pub nearest_none : (a : ℕ → Bool) (n from : ℕ) → ((k : ℕ) → k < n → a k ≡ false) → IsNearest a n from n
-nearest_none a n from e = record { within = omega arith; after = λ h. absurd (omega arith); there = λ h. absurd (omega arith); before = λ k f h. e k h }
 
 -- of two the nearer one
 pub nearest_two : (a b : ℕ → Bool) (n from x y : ℕ) → IsNearest a n from x → IsNearest b n from y → IsNearest (λ k. a k || b k) n from (min x y)
@@ -97,8 +80,12 @@ near_trains_are layout t (x ∷ trains) st from =
     (λ y. rw y (near_trains_are layout t trains st from))
     (λ n. rw n (nearest_two _ _ _ _ _ _ (near_train_is layout x st from) (near_trains_are layout t trains st from)))
 
+-- a point of the zone's own that is held for another train
+abbrev pub held_on_zone : Line → ℕ → List Controlled → ℕ → Point → Bool
+held_on_zone line z trains t = (barring_plain line z trains [] t).held
+
 pub on_is : (line : Line) (z : ℕ) (trains : List Controlled) (t : ℕ) (st : DirSeg) (from : ℕ)
-    → IsNearest (λ k. barring_plain line z trains t (cell_on (seg_len line) st k)) (seg_len line st.seg.0) from (near_on line z trains t st from)
+    → IsNearest (λ k. held_on_zone line z trains t (cell_on (seg_len line) st k)) (seg_len line st.seg.0) from (near_on line z trains t st from)
 on_is line z trains t st from =
     by_test (nat_eq (zone_of line st.seg.0) z)
     (λ y. rw y (near_trains_are (layout line) t trains st from))
@@ -106,60 +93,31 @@ on_is line z trains t st from =
 
 -- the place is held
 abbrev pub held_at : Line → ℕ → List Controlled → ℕ → List DirSeg → ℕ → Bool
-held_at line z trains t asked p = passes (layout line) (barring_plain line z trains t) (on_step (seg_len line) asked p)
+held_at line z trains t asked p = passes (layout line) (held_on_zone line z trains t) (on_step (seg_len line) asked p)
 
 held_here : (line : Line) (z : ℕ) (trains : List Controlled) (t : ℕ) (st : DirSeg) (asked : List DirSeg) (p : ℕ) → p < seg_len line st.seg.0
-    → held_at line z trains t (st ∷ asked) p ≡ barring_plain line z trains t (cell_on (seg_len line) st p)
+    → held_at line z trains t (st ∷ asked) p ≡ held_on_zone line z trains t (cell_on (seg_len line) st p)
 unfolding on_step
 held_here line z trains t st asked p h =
     let y : nat_lt p (seg_len line st.seg.0) ≡ true = grind (arith, nat_tests) in
-    rw y (cell_alone line (barring_plain line z trains t) st.seg.0 (mm_at (seg_len line st.seg.0) st.dir p))
+    rw y (cell_alone line (held_on_zone line z trains t) st.seg.0 (mm_at (seg_len line st.seg.0) st.dir p))
 
 held_beyond : (line : Line) (z : ℕ) (trains : List Controlled) (t : ℕ) (st : DirSeg) (asked : List DirSeg) (p : ℕ) → seg_len line st.seg.0 ≤ p
     → held_at line z trains t (st ∷ asked) p ≡ held_at line z trains t asked (p - seg_len line st.seg.0)
 unfolding on_step
 held_beyond line z trains t st asked p h = let n : nat_lt p (seg_len line st.seg.0) ≡ false = grind (arith, nat_tests) in rw n refl
 
+held_on : (line : Line) (z : ℕ) (trains : List Controlled) (t : ℕ) → IsTested (seg_len line) (λ st p. held_on_zone line z trains t (cell_on (seg_len line) st p)) (held_at line z trains t)
+unfolding on_step
+held_on line z trains t = record { none = λ p. refl; here = λ st asked p h. held_here line z trains t st asked p h; beyond = λ st asked p h. held_beyond line z trains t st asked p h }
+
 -- nothing is held beyond the end of the steps
 pub held_behind : (line : Line) (z : ℕ) (trains : List Controlled) (t : ℕ) (asked : List DirSeg) (p : ℕ) → total (seg_len line) asked ≤ p → held_at line z trains t asked p ≡ false
-unfolding on_step total
-held_behind line z trains t [] p h = refl
-held_behind line z trains t (st ∷ asked) p h =
-    let n : nat_lt p (seg_len line st.seg.0) ≡ false = grind (arith, nat_tests) in
-    rw n (held_behind line z trains t asked (p - seg_len line st.seg.0) (omega arith))
-
--- on a step it stops, or it goes on after it
-module _ (here rest all : ℕ → Bool) (len n from q : ℕ) (h : (p : ℕ) → p < len → all p ≡ here p) (b : (p : ℕ) → len ≤ p → all p ≡ rest (p - len)) (i : IsNearest here len from q) where
-  stops_here : q < len → IsNearest all (len + n) from q
-  stops_here lt = record {
-    within = omega arith;
-    after = λ k. i.after lt;
-    there = λ k. rw (h q lt) (i.there lt);
-    before = λ k f l. rw (h k (omega arith)) (i.before k f l);
-  }
-
-  goes_on : len ≤ q → (r : ℕ) → IsNearest rest n (from - len) r → IsNearest all (len + n) from (len + r)
-  goes_on ge r j = record {
-    within = let w = j.within in omega arith;
-    after = λ k. let a = j.after (omega arith) in omega arith;
-    there = λ k. let e : len + r - len ≡ r = omega arith in rw (b (len + r) (omega arith), e) (j.there (omega arith));
-    before = λ k f l. by_test (nat_lt k len)
-        (λ y. let lt : k < len = grind (arith, nat_tests) in rw (h k lt) (i.before k f (omega arith)))
-        (λ x. let le : len ≤ k = grind (arith, nat_tests) in rw (b k le) (j.before (k - len) (omega arith) (omega arith)));
-  }
+held_behind line z trains t = none_behind (seg_len line) _ _ (held_on line z trains t)
 
 pub first_held_is : (line : Line) (z : ℕ) (trains : List Controlled) (t : ℕ) (asked : List DirSeg) (from : ℕ)
     → IsNearest (held_at line z trains t asked) (total (seg_len line) asked) from (first_held line z trains t asked from)
-unfolding first_held total
-first_held_is line z trains t [] from = record { within = omega arith; after = λ h. absurd (omega arith); there = λ h. absurd (omega arith); before = λ k f h. absurd (omega arith) }
-first_held_is line z trains t (st ∷ asked) from =
-    let i = on_is line z trains t st from in
-    by_test (nat_lt (near_on line z trains t st from) (seg_len line st.seg.0))
-    (λ y. rw y (stops_here _ (held_at line z trains t asked) (held_at line z trains t (st ∷ asked)) (seg_len line st.seg.0) (total (seg_len line) asked) from _
-    (λ p h. held_here line z trains t st asked p h) (λ p h. held_beyond line z trains t st asked p h) i (grind (arith, nat_tests))))
-    (λ x. rw x (goes_on _ (held_at line z trains t asked) (held_at line z trains t (st ∷ asked)) (seg_len line st.seg.0) (total (seg_len line) asked) from _
-    (λ p h. held_here line z trains t st asked p h) (λ p h. held_beyond line z trains t st asked p h) i (grind (arith, nat_tests))
-    (first_held line z trains t asked (from - seg_len line st.seg.0)) (first_held_is line z trains t asked (from - seg_len line st.seg.0))))
+first_held_is line z trains t = first_place_is (seg_len line) _ _ (held_on line z trains t) (near_on line z trains t) (on_is line z trains t)
 
 -- whether some number passes, by the first one
 pub some_nearest : (test : ℕ → Bool) (n q : ℕ) → IsNearest test n 0 q → some_below test n ≡ nat_lt q n

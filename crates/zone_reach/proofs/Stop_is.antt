@@ -1,135 +1,145 @@
--- The first place of an obstacle, in closed form.
-use Rattle.std.proofs.Common.{◌≡◌, ℕ, ◌+◌, ◌-◌, ◌<◌, ◌≤◌, max, Bool, true, false, ◌&&◌, ◌||◌, if◌then◌else◌, refl, arith, nat_eq, nat_lt, nat_le}
+-- The first place of an obstacle, in closed form, by one kind of obstacle after another.
+use Rattle.std.proofs.Common.{◌≡◌, ℕ, ◌+◌, ◌-◌, ◌<◌, ◌≤◌, Bool, true, false, ◌&&◌, ◌||◌, List, [], ◌∷◌, ◌++◌, if◌then◌else◌, refl, arith, nat_eq, nat_lt, nat_le}
+use Rattle.std.specs.List.{list_any}
 use Rattle.std.proofs.lemmas.Bool.Decides.{nat_tests}
+use Rattle.std.proofs.lemmas.List.Folds.{list_any-append}
 use Rattle.list_laws.proofs.By_test.{by_test}
+use Rattle.track_points.specs.Points.{Layout}
 use Rattle.definitions.specs.declared.outcome.Obstacle.{Obstacle}
-use Rattle.definitions.specs.declared.outcome.Obstacle.TheVariants.{AskEnds, TrackEnds, Held, PathFull}
+use Rattle.definitions.specs.declared.outcome.Obstacle.TheVariants.{AskEnds, TrackEnds, Held, Closed, PathFull}
+use Rattle.definitions.specs.Limit.{Ask, stands, first_standing}
 use Rattle.way_laws.proofs.First_is.{IsFirst}
 use Rattle.zone_reach.specs.declared.reach.Stop.{Stop}
-use Rattle.zone_reach.specs.Reach.{nearer, first_stop}
-use Rattle.zone_reach.proofs.First_held_is.{IsNearest}
+use Rattle.zone_reach.specs.Reach.{nearer, end_stop, bar_stop, full_stop}
+use Rattle.zone_reach.proofs.First_place_is.{IsNearest}
 
-pub first_same : (f g : ℕ → Bool) (n d : ℕ) → ((k : ℕ) → g k ≡ f k) → IsFirst f n d → IsFirst g n d
-first_same f g n d e i = record { within = i.within; there = λ h. rw (e d) (i.there h); before = λ k h. rw (e k) (i.before k h) }
+-- where a test holds first from the limit on, if it holds at all
+pub record IsAt (test : ℕ → Bool) (limit : ℕ) (some : Bool) (q : ℕ) : Type 0 where
+  pub there : some ≡ true → limit ≤ q → test q ≡ true
+  pub before : (p : ℕ) → limit ≤ p → (some ≡ true → limit ≤ q → p < q) → test p ≡ false
 
--- whether something that is not held stops at a place: the end of the ask, that of the track, or a full path
-abbrev pub stops : Bool → Bool → ℕ → ℕ → ℕ → ℕ → Bool
-stops a b e t f p = nat_eq p e || (a && nat_eq p t || b && nat_eq p f)
+-- one place alone
+pub at_place : (some : Bool) (limit q : ℕ) → IsAt (λ p. some && nat_eq p q) limit some q
+at_place true limit q = record {
+  there = λ s l. grind (arith, nat_tests);
+  before = λ p l b. by_test (nat_le limit q)
+      (λ y. let lt = b refl (grind (arith, nat_tests)) in grind (arith, nat_tests))
+      (λ n. grind (arith, nat_tests));
+}
+at_place false limit q = record { there = λ s l. absurd (cc); before = λ p l b. refl }
 
--- the first of these, where nothing is held
-abbrev pub bare_stop : Bool → Bool → ℕ → ℕ → ℕ → ℕ → Stop
-bare_stop a b limit e t f =
-    nearer limit b (record { place = f; obstacle = PathFull }) (nearer limit a (record { place = t; obstacle = TrackEnds }) (record { place = e; obstacle = AskEnds }))
+-- the first place of some steps, whose end is that of all
+pub at_nearest : (test : ℕ → Bool) (t limit q : ℕ) → IsNearest test t limit q → ((p : ℕ) → t ≤ p → test p ≡ false) → IsAt test limit (nat_lt q t) q
+at_nearest test t limit q i none = record {
+  there = λ s l. i.there (grind (arith, nat_tests));
+  before = λ p l b. let w = i.within in by_test (nat_lt p t)
+      (λ y. by_test (nat_lt q t)
+      (λ s. let f = i.after (grind (arith, nat_tests)) in i.before p l (b s f))
+      (λ n. i.before p l (grind (arith, nat_tests))))
+      (λ n. none p (grind (arith, nat_tests)));
+}
 
-bare_is : (a b : Bool) (limit e t f : ℕ) → limit ≤ e
-    → IsFirst (λ d. stops a b e t f (limit + d)) (e - limit) ((bare_stop a b limit e t f).place - limit)
-bare_is true true limit e t f h = record { within = grind (arith, nat_tests); there = λ k. grind (arith, nat_tests); before = λ k i. grind (arith, nat_tests) }
-bare_is true false limit e t f h = record { within = grind (arith, nat_tests); there = λ k. grind (arith, nat_tests); before = λ k i. grind (arith, nat_tests) }
-bare_is false true limit e t f h = record { within = grind (arith, nat_tests); there = λ k. grind (arith, nat_tests); before = λ k i. grind (arith, nat_tests) }
-bare_is false false limit e t f h = record { within = grind (arith, nat_tests); there = λ k. grind (arith, nat_tests); before = λ k i. grind (arith, nat_tests) }
+module _ (layout : Layout) (ask : Ask) where
+  -- whether an obstacle of some kinds stands at a place
+  abbrev pub any_stands : List Obstacle → ℕ → Bool
+  any_stands kinds p = list_any (λ kind. stands layout ask kind p) kinds
 
-bare_from : (a b : Bool) (limit e t f : ℕ) → limit ≤ e → limit ≤ (bare_stop a b limit e t f).place
-bare_from true true limit e t f h = grind (arith, nat_tests)
-bare_from true false limit e t f h = grind (arith, nat_tests)
-bare_from false true limit e t f h = grind (arith, nat_tests)
-bare_from false false limit e t f h = grind (arith, nat_tests)
+  -- a stop is at the first place, from the limit on, at which an obstacle of some kinds stands, and is the first of these
+  -- kinds that stands there
+  pub record IsStop (kinds : List Obstacle) (s : Stop) : Type 0 where
+    pub from : ask.limit ≤ s.place
+    pub there : any_stands kinds s.place ≡ true
+    pub before : (p : ℕ) → ask.limit ≤ p → p < s.place → any_stands kinds p ≡ false
+    pub least : first_standing layout ask s.place kinds ≡ s.obstacle
 
--- the first of something that stops and something that is held
-abbrev pub or_held : ℕ → ℕ → ℕ → ℕ → ℕ
-or_held limit t h s = if nat_lt h t && (nat_le limit h && nat_lt h s) then h else s
+  -- one more kind
+  any_more : (kinds : List Obstacle) (kind : Obstacle) (p : ℕ) → any_stands (kinds ++ kind ∷ []) p ≡ (any_stands kinds p || (stands layout ask kind p || false))
+  any_more kinds kind p = list_any-append (λ k. stands layout ask k p) kinds (kind ∷ [])
 
-held_or_is : (old held : ℕ → Bool) (limit n t h s : ℕ) → limit ≤ s → IsFirst old n (s - limit) → IsNearest held t limit h → ((p : ℕ) → t ≤ p → held p ≡ false)
-    → IsFirst (λ d. old d || held (limit + d)) n (or_held limit t h s - limit)
-held_or_is old held limit n t h s ls i j none =
-    let w = i.within in
-    by_test (nat_lt h t && (nat_le limit h && nat_lt h s))
-    (λ y. let lt : h < t = grind (arith, nat_tests) in
-    let le : limit ≤ h = grind (arith, nat_tests) in
-    let hs : h < s = grind (arith, nat_tests) in
-    let e : limit + (h - limit) ≡ h = omega arith in
-    rw y record {
-      within = omega arith;
-      there = λ k. let x = j.there lt in rw e (grind arith);
-      before = λ k l. let x = i.before k (omega arith) in let z = j.before (limit + k) (omega arith) (omega arith) in rw (x, z) refl;
-    })
-    (λ x. rw x record {
-      within = w;
-      there = λ k. let z = i.there k in rw z refl;
-      before = λ k l. let a = i.before k l in
-          let z : held (limit + k) ≡ false = by_test (nat_lt (limit + k) t)
-          (λ y. let lt : limit + k < t = grind (arith, nat_tests) in
-          by_test (nat_lt h t)
-          (λ c. let f = j.after (grind (arith, nat_tests)) in j.before (limit + k) (omega arith) (grind (arith, nat_tests)))
-          (λ c. j.before (limit + k) (omega arith) (grind (arith, nat_tests))))
-          (λ y. none (limit + k) (grind (arith, nat_tests))) in
-          rw (a, z) refl;
-    })
+  standing_more : (kinds : List Obstacle) (kind : Obstacle) (p : ℕ)
+      → first_standing layout ask p (kinds ++ kind ∷ []) ≡ (if any_stands kinds p then first_standing layout ask p kinds else if stands layout ask kind p then kind else AskEnds)
+  unfolding first_standing
+  standing_more [] kind p = refl
+  standing_more (k ∷ kinds) kind p =
+      by_test (stands layout ask k p) (λ y. rw y refl) (λ n. rw n (standing_more kinds kind p))
 
-held_inside : (a b : Bool) (limit e t f h : ℕ) → or_held limit t h (bare_stop a b limit e t f).place ≡ (first_stop a b limit e t f h).place
-held_inside true true limit e t f h = grind (arith, nat_tests)
-held_inside true false limit e t f h = grind (arith, nat_tests)
-held_inside false true limit e t f h = grind (arith, nat_tests)
-held_inside false false limit e t f h = grind (arith, nat_tests)
+  -- the nearer of a stop and an obstacle of a further kind
+  pub stop_more : (kinds : List Obstacle) (kind : Obstacle) (some : Bool) (q : ℕ) (s : Stop) → IsStop kinds s → IsAt (stands layout ask kind) ask.limit some q
+      → IsStop (kinds ++ kind ∷ []) (nearer ask.limit some (record { place = q; obstacle = kind }) s)
+  stop_more kinds kind some q s i at =
+      by_test (some && (nat_le ask.limit q && nat_lt q s.place))
+      (λ y. let is_some : some ≡ true = grind (arith, nat_tests) in
+      let from : ask.limit ≤ q = grind (arith, nat_tests) in
+      let lt : q < s.place = grind (arith, nat_tests) in
+      let here = at.there is_some from in
+      let others = i.before q from lt in
+      rw y record {
+        from = from;
+        there = rw (any_more kinds kind q, others, here) refl;
+        before = λ p l b. let x = i.before p l (omega arith) in let z = at.before p l (λ e f. b) in rw (any_more kinds kind p, x, z) refl;
+        least = rw (standing_more kinds kind q, others, here) refl;
+      })
+      (λ n. let t = i.there in
+      rw n record {
+        from = i.from;
+        there = rw (any_more kinds kind s.place, t) refl;
+        before = λ p l b. let x = i.before p l b in let z = at.before p l (λ e f. grind (arith, nat_tests)) in rw (any_more kinds kind p, x, z) refl;
+        least = rw (standing_more kinds kind s.place, t) i.least;
+      })
 
-held_last : (x y v z : Bool) → (x || (y || (v || (z || false)))) ≡ ((x || (y || z)) || v)
-held_last true y v z = refl
-held_last false true v z = refl
-held_last false false true true = refl
-held_last false false true false = refl
-held_last false false false true = refl
-held_last false false false false = refl
+  -- a kind that stands nowhere
+  pub stop_same : (kinds : List Obstacle) (kind : Obstacle) (s : Stop) → IsStop kinds s → ((p : ℕ) → stands layout ask kind p ≡ false) → IsStop (kinds ++ kind ∷ []) s
+  stop_same kinds kind s i none = stop_more kinds kind false 0 s i record { there = λ e l. absurd (cc); before = λ p l b. none p }
 
--- whether any obstacle stands at a place
-abbrev pub stops_or_held : Bool → Bool → ℕ → ℕ → ℕ → (ℕ → Bool) → ℕ → Bool
-stops_or_held a b e t f held p = nat_eq p e || (a && nat_eq p t || (held p || (b && nat_eq p f || false)))
+  -- it is the first
+  pub stop_first : (kinds : List Obstacle) (s : Stop) (e : ℕ) → IsStop kinds s → s.place ≤ e → IsFirst (λ d. any_stands kinds (ask.limit + d)) (e - ask.limit) (s.place - ask.limit)
+  stop_first kinds s e i within =
+      let from = i.from in
+      let same : ask.limit + (s.place - ask.limit) ≡ s.place = omega arith in
+      record {
+        within = omega arith;
+        there = λ h. rw same i.there;
+        before = λ k h. i.before (ask.limit + k) (omega arith) (omega arith);
+      }
 
-pub stop_is : (a b : Bool) (held : ℕ → Bool) (limit e t f h : ℕ) → limit ≤ e → IsNearest held t limit h → ((p : ℕ) → t ≤ p → held p ≡ false)
-    → IsFirst (λ d. stops_or_held a b e t f held (limit + d)) (e - limit) ((first_stop a b limit e t f h).place - limit)
-stop_is a b held limit e t f h le j none =
-    let i = held_or_is (λ d. stops a b e t f (limit + d)) held limit (e - limit) t h (bare_stop a b limit e t f).place (bare_from a b limit e t f le) (bare_is a b limit e t f le) j none in
-    let x = first_same (λ d. stops a b e t f (limit + d) || held (limit + d)) (λ d. stops_or_held a b e t f held (limit + d)) _ _
-    (λ k. held_last (nat_eq (limit + k) e) (a && nat_eq (limit + k) t) (held (limit + k)) (b && nat_eq (limit + k) f)) i in
-    rw (← held_inside a b limit e t f h) x
+-- the nearer of two is no nearer than the limit, and no farther than either
+nearer_from : (limit : ℕ) (some : Bool) (o s : Stop) → limit ≤ s.place → limit ≤ (nearer limit some o s).place
+nearer_from limit some o s h = by_test (some && (nat_le limit o.place && nat_lt o.place s.place)) (λ y. rw y (grind (arith, nat_tests))) (λ n. rw n h)
 
--- the obstacle that stands at a place, of the least code; `v` is whether the place is held
-abbrev pub standing : Bool → Bool → ℕ → ℕ → ℕ → Bool → ℕ → Obstacle
-standing a b e t f v p = if nat_eq p e then AskEnds else if a && nat_eq p t then TrackEnds else if v then Held else if b && nat_eq p f then PathFull else AskEnds
+nearer_below : (limit : ℕ) (some : Bool) (o s : Stop) → (nearer limit some o s).place ≤ s.place
+nearer_below limit some o s = by_test (some && (nat_le limit o.place && nat_lt o.place s.place)) (λ y. rw y (grind (arith, nat_tests))) (λ n. rw n (omega arith))
 
--- where a place before the first held one, or beyond all steps, is not held, and that one is
-least_at : (a b v : Bool) (limit e t f h : ℕ) → limit ≤ e → (h < t → limit ≤ h)
-    → (h < t → (first_stop a b limit e t f h).place ≡ h → v ≡ true) → ((first_stop a b limit e t f h).place < h → v ≡ false) → (t ≤ (first_stop a b limit e t f h).place → v ≡ false)
-    → standing a b e t f v (first_stop a b limit e t f h).place ≡ (first_stop a b limit e t f h).obstacle
-least_at true true true limit e t f h le u x y z = grind (arith, nat_tests, u, x, y, z)
-least_at true true false limit e t f h le u x y z = grind (arith, nat_tests, u, x, y, z)
-least_at true false true limit e t f h le u x y z = grind (arith, nat_tests, u, x, y, z)
-least_at true false false limit e t f h le u x y z = grind (arith, nat_tests, u, x, y, z)
-least_at false true true limit e t f h le u x y z = grind (arith, nat_tests, u, x, y, z)
-least_at false true false limit e t f h le u x y z = grind (arith, nat_tests, u, x, y, z)
-least_at false false true limit e t f h le u x y z = grind (arith, nat_tests, u, x, y, z)
-least_at false false false limit e t f h le u x y z = grind (arith, nat_tests, u, x, y, z)
+nearer_within : (limit : ℕ) (o s : Stop) → limit ≤ o.place → (nearer limit true o s).place ≤ o.place
+nearer_within limit o s h = by_test (nat_le limit o.place && nat_lt o.place s.place) (λ y. rw y (omega arith)) (λ n. rw n (grind (arith, nat_tests)))
 
-bare_near : (a b : Bool) (limit e t f : ℕ) → limit ≤ e → limit ≤ f → f ≤ t → (b ≡ false → f ≡ t) → (a ≡ false → e ≤ max limit t)
-    → (bare_stop a b limit e t f).place ≤ f
-bare_near true true limit e t f h i j k l = grind (arith, nat_tests)
-bare_near true false limit e t f h i j k l = let x = k refl in grind (arith, nat_tests)
-bare_near false true limit e t f h i j k l = let x = l refl in grind (arith, nat_tests)
-bare_near false false limit e t f h i j k l = let x = l refl in let y = k refl in grind (arith, nat_tests)
+pub end_from : (a : Bool) (limit e t : ℕ) → limit ≤ e → limit ≤ (end_stop a limit e t).place
+end_from a limit e t h = nearer_from limit a (record { place = t; obstacle = TrackEnds }) (record { place = e; obstacle = AskEnds }) h
 
--- none is beyond the first 24 steps; `f` is their end, `t` that of all
-pub stop_near : (a b : Bool) (limit e t f h : ℕ) → limit ≤ e → limit ≤ f → f ≤ t → (b ≡ false → f ≡ t) → (a ≡ false → e ≤ max limit t)
-    → (first_stop a b limit e t f h).place ≤ f
-stop_near a b limit e t f h i j k l m =
-    let x = bare_near a b limit e t f i j k l m in rw (← held_inside a b limit e t f h) (grind (arith, nat_tests))
+pub end_below : (a : Bool) (limit e t : ℕ) → (end_stop a limit e t).place ≤ e
+end_below a limit e t = nearer_below limit a (record { place = t; obstacle = TrackEnds }) (record { place = e; obstacle = AskEnds })
 
-pub stop_from : (a b : Bool) (limit e t f h : ℕ) → limit ≤ e → limit ≤ (first_stop a b limit e t f h).place
-stop_from a b limit e t f h i =
-    let x = bare_from a b limit e t f i in rw (← held_inside a b limit e t f h) (grind (arith, nat_tests))
+pub end_within : (limit e t : ℕ) → limit ≤ t → (end_stop true limit e t).place ≤ t
+end_within limit e t h = nearer_within limit (record { place = t; obstacle = TrackEnds }) (record { place = e; obstacle = AskEnds }) h
 
--- the obstacle that stands there is the one of the least code
-pub least_is : (a b : Bool) (held : ℕ → Bool) (limit e t f h : ℕ) → limit ≤ e → IsNearest held t limit h → ((p : ℕ) → t ≤ p → held p ≡ false)
-    → standing a b e t f (held (first_stop a b limit e t f h).place) (first_stop a b limit e t f h).place ≡ (first_stop a b limit e t f h).obstacle
-least_is a b held limit e t f h le j none =
-    least_at a b (held (first_stop a b limit e t f h).place) limit e t f h le j.after
-    (λ lt q. rw q (j.there lt))
-    (λ lt. j.before (first_stop a b limit e t f h).place (stop_from a b limit e t f h le) lt)
-    (none (first_stop a b limit e t f h).place)
+-- a held place, or a stop
+abbrev or_held : ℕ → ℕ → ℕ → Stop → Stop
+or_held limit t h s = nearer limit (nat_lt h t) (record { place = h; obstacle = Held }) s
+
+pub bar_from : (limit t h c : ℕ) (s : Stop) → limit ≤ s.place → limit ≤ (bar_stop limit t h c s).place
+bar_from limit t h c s f =
+    nearer_from limit (nat_lt c t) (record { place = c; obstacle = Closed }) (or_held limit t h s) (nearer_from limit (nat_lt h t) (record { place = h; obstacle = Held }) s f)
+
+pub bar_below : (limit t h c : ℕ) (s : Stop) → (bar_stop limit t h c s).place ≤ s.place
+bar_below limit t h c s =
+    let closed = nearer_below limit (nat_lt c t) (record { place = c; obstacle = Closed }) (or_held limit t h s) in
+    let held = nearer_below limit (nat_lt h t) (record { place = h; obstacle = Held }) s in
+    omega arith
+
+pub full_from : (limit : ℕ) (b : Bool) (f : ℕ) (s : Stop) → limit ≤ s.place → limit ≤ (full_stop limit b f s).place
+full_from limit b f s h = nearer_from limit b (record { place = f; obstacle = PathFull }) s h
+
+pub full_below : (limit : ℕ) (b : Bool) (f : ℕ) (s : Stop) → (full_stop limit b f s).place ≤ s.place
+full_below limit b f s = nearer_below limit b (record { place = f; obstacle = PathFull }) s
+
+pub full_within : (limit f : ℕ) (s : Stop) → limit ≤ f → (full_stop limit true f s).place ≤ f
+full_within limit f s h = nearer_within limit (record { place = f; obstacle = PathFull }) s h

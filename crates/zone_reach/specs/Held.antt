@@ -1,5 +1,5 @@
 -- What is held for other trains, by walks over the steps of the ways.
-use Rattle.std.specs.Prelude.{ℕ, ◌+◌, ◌-◌, List, [], ◌∷◌, if◌then◌else◌, min, max, nat_eq, nat_lt}
+use Rattle.std.specs.Prelude.{ℕ, ◌-◌, List, [], ◌∷◌, if◌then◌else◌, min, max, nat_eq, nat_lt}
 use Rattle.track_points.specs.declared.ids.Dir.{Dir}
 use Rattle.track_points.specs.declared.ids.Dir.TheVariants.{Up, Down}
 use Rattle.track_points.specs.declared.ids.DirSeg.{DirSeg}
@@ -7,6 +7,7 @@ use Rattle.track_points.specs.Points.{Lengths, end_place}
 use Rattle.definitions.specs.Track.{Line, seg_len, zone_of}
 use Rattle.plain_state.specs.declared.Controlled.{Controlled}
 use Rattle.zone_reach.specs.declared.held.Cells.{Cells}
+use Rattle.zone_reach.specs.Walk.{first_place}
 
 -- the cells that a step passes from one offset to below another
 abbrev pub cells_on : ℕ → Dir → ℕ → ℕ → Cells
@@ -44,9 +45,5 @@ abbrev pub near_on : Line → ℕ → List Controlled → ℕ → DirSeg → ℕ
 near_on line z trains t st from = if nat_eq (zone_of line st.seg.0) z then near_trains (seg_len line) t trains st from else seg_len line st.seg.0
 
 -- the first place of some steps, from one on, that is held for another train; their end where there is none
-unfoldable pub first_held : Line → ℕ → List Controlled → ℕ → List DirSeg → ℕ → ℕ
-first_held line z trains t [] from = 0
-first_held line z trains t (st ∷ asked) from =
-    if nat_lt (near_on line z trains t st from) (seg_len line st.seg.0)
-    then near_on line z trains t st from
-    else seg_len line st.seg.0 + first_held line z trains t asked (from - seg_len line st.seg.0)
+abbrev pub first_held : Line → ℕ → List Controlled → ℕ → List DirSeg → ℕ → ℕ
+first_held line z trains t asked from = first_place (seg_len line) (near_on line z trains t) asked from

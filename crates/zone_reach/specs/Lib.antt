@@ -1,2 +1,4 @@
+pub mod Walk
 pub mod Held
+pub mod Closed
 pub mod Reach

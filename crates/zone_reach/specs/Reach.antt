@@ -4,7 +4,7 @@ use Rattle.track_points.specs.declared.ids.DirSeg.{DirSeg}
 use Rattle.track_points.specs.declared.path.Path.{Path}
 use Rattle.track_points.specs.Points.{Lengths, total, place_of_last, end_place}
 use Rattle.definitions.specs.Track.{Line, seg_len, last_step}
-use Rattle.definitions.specs.declared.outcome.Obstacle.TheVariants.{AskEnds, TrackEnds, Held, PathFull}
+use Rattle.definitions.specs.declared.outcome.Obstacle.TheVariants.{AskEnds, TrackEnds, Held, Closed, PathFull}
 use Rattle.definitions.specs.Limit as limits
 use Rattle.way_path.specs.Ways.{PlacedWay}
 use Rattle.zone_reach.specs.declared.reach.Stop.{Stop}
@@ -14,16 +14,24 @@ use Rattle.zone_reach.specs.declared.reach.Reach.{Reach}
 abbrev pub nearer : ℕ → Bool → Stop → Stop → Stop
 nearer limit stands other so_far = if stands && (nat_le limit other.place && nat_lt other.place so_far.place) then other else so_far
 
--- the first of the end of the ask, the end of the track, a held place and a full path; `h` is the first held place, `t`
--- the end of all steps
-abbrev pub first_stop : Bool → Bool → ℕ → ℕ → ℕ → ℕ → ℕ → Stop
-first_stop a b limit e t f h =
-    nearer limit b (record { place = f; obstacle = PathFull }) (nearer limit (nat_lt h t) (record { place = h; obstacle = Held }) (nearer limit a (record { place = t; obstacle = TrackEnds }) (record { place = e; obstacle = AskEnds })))
+-- the end of the ask, or the end of the track, where the ask goes beyond it and that is nearer; `t` is the end of all steps
+abbrev pub end_stop : Bool → ℕ → ℕ → ℕ → Stop
+end_stop a limit e t = nearer limit a (record { place = t; obstacle = TrackEnds }) (record { place = e; obstacle = AskEnds })
 
--- the same of an asked way
-abbrev pub stop_on : Lengths → List DirSeg → ℕ → ℕ → ℕ → Stop
-stop_on len asked limit to h =
-    first_stop (nat_lt (len (last_step asked).seg.0) to) (nat_lt 24 (length asked)) limit (max limit (place_of_last len asked to)) (total len asked) (total len (take 24 asked)) h
+-- the first of a stop, a held place and a closed one
+abbrev pub bar_stop : ℕ → ℕ → ℕ → ℕ → Stop → Stop
+bar_stop limit t h c s =
+    nearer limit (nat_lt c t) (record { place = c; obstacle = Closed }) (nearer limit (nat_lt h t) (record { place = h; obstacle = Held }) s)
+
+-- the first of a stop and a full path
+abbrev pub full_stop : ℕ → Bool → ℕ → Stop → Stop
+full_stop limit b f s = nearer limit b (record { place = f; obstacle = PathFull }) s
+
+-- the first obstacle of an asked way, where its first held place and its first closed place are these
+abbrev pub stop_on : Lengths → List DirSeg → ℕ → ℕ → ℕ → ℕ → Stop
+stop_on len asked limit to h c =
+    full_stop limit (nat_lt 24 (length asked)) (total len (take 24 asked))
+    (bar_stop limit (total len asked) h c (end_stop (nat_lt (len (last_step asked).seg.0) to) limit (max limit (place_of_last len asked to)) (total len asked)))
 
 -- a reach as the definitions have it
 abbrev pub reach_value : Reach → limits.Reach

@@ -164,7 +164,7 @@ fn near_on(
 
 /// The first place of an asked way, from one on, that is held for another train than this one; the end of the way where
 /// there is none.
-#[tactic(auto, unfolding(crate::specs::Held::first_held))]
+#[tactic(auto, unfolding(crate::specs::Walk::first_place))]
 pub fn first_held(
     line: &Line,
     zone: u8,

@@ -1,5 +1,5 @@
 -- The trains after a message: none is there twice, and which of them fall silent.
-use Rattle.std.proofs.Common.{◌≡◌, ℕ, suc, ◌+◌, ◌≤◌, ◌<◌, max, true, false, not, ◌&&◌, List, [], ◌∷◌, ◌++◌, length, map, Option, Some, None, is_some, refl, sym, ap, ◌∙◌, arith, nat_eq, nat_lt}
+use Rattle.std.proofs.Common.{◌≡◌, ℕ, suc, ◌+◌, ◌≤◌, ◌<◌, max, Bool, true, false, not, ◌&&◌, List, [], ◌∷◌, ◌++◌, length, map, Option, Some, None, is_some, refl, sym, ap, ◌∙◌, arith, nat_eq, nat_lt}
 use Rattle.std.specs.Prelude.{⊤}
 use Rattle.std.specs.List.{list_all}
 use Rattle.std.proofs.lemmas.Bool.Decides.{nat_tests}
@@ -174,8 +174,8 @@ module _ (line : Line) (z before clock : ℕ) (old : List Controlled) (d : Disti
   entered_follows (Some u) x h r l = grown_follows
   entered_follows None x h r l = placed_follows x h r l
 
-  pub after_follows : (m : Msg) → clock ≡ max before (message_time m) → Follows line z before clock old (trains_acted_on line z clock (map (grown_train clock) old) m)
-  after_follows (msg.EntryAsk t time long error speed equipped step) c =
+  pub after_follows : (closed : List Bool) (m : Msg) → clock ≡ max before (message_time m) → Follows line z before clock old (trains_acted_on line z clock (map (grown_train clock) old) closed m)
+  after_follows closed (msg.EntryAsk t time long error speed equipped step) c =
       let trains = map (grown_train clock) old in
       by_test (is_some (find_controlled t.0 trains))
       (λ y. rw y grown_follows)
@@ -185,16 +185,16 @@ module _ (line : Line) (z before clock : ℕ) (old : List Controlled) (d : Disti
       (λ y. rw (n, k, y) grown_follows)
       (λ i. let a = length_mapped (grown_train clock) old in
       rw (n, k, i) (entered_follows (holder_plain line z trains step.seg.0) (train_at_entry clock t (seg_len line step.seg.0) long error speed step) (none_of _ n) refl (grind (arith, nat_tests))))))
-  after_follows (msg.Ask t time steps to) c =
-      by_test (nat_eq (reach_plain line z clock (map (grown_train clock) old) t.0 steps.items to).distance 0)
+  after_follows closed (msg.Ask t time steps to) c =
+      by_test (nat_eq (reach_plain line z clock (map (grown_train clock) old) closed t.0 steps.items to).distance 0)
       (λ y. rw y grown_follows)
-      (λ n. rw n (changed_follows t.0 (lengthened (seg_len line) steps.items (reach_plain line z clock (map (grown_train clock) old) t.0 steps.items to).distance) (λ x. refl) (λ x. refl)))
-  after_follows (msg.Report t time mark offset integrity) c =
+      (λ n. rw n (changed_follows t.0 (lengthened (seg_len line) steps.items (reach_plain line z clock (map (grown_train clock) old) closed t.0 steps.items to).distance) (λ x. refl) (λ x. refl)))
+  after_follows closed (msg.Report t time mark offset integrity) c =
       by_test (uses_mark (find_controlled t.0 (map (grown_train clock) old)) mark)
       (λ y. rw y (changed_follows t.0 (reported_by (seg_len line) time mark offset integrity) (λ x. refl) (λ x. rw c (reported_silent line before time x.report))))
       (λ n. rw n grown_follows)
-  after_follows (msg.Answer t time number taken) c = changed_follows t.0 (answer (seg_len line) number taken) (λ x. refl) (λ x. refl)
-  after_follows _ c = grown_follows
+  after_follows closed (msg.Answer t time number taken) c = changed_follows t.0 (answer (seg_len line) number taken) (λ x. refl) (λ x. refl)
+  after_follows closed _ c = grown_follows
 
 -- growth changes no number
 pub fresh_grown : (clock : ℕ) (xs : List Controlled) → list_all fresh_train (map (grown_train clock) xs) ≡ list_all fresh_train xs

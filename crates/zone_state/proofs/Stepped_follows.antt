@@ -7,10 +7,12 @@ use Rattle.list_laws.proofs.By_test.{by_test}
 use Rattle.track_points.specs.Points.{Lengths}
 use Rattle.definitions.specs.declared.message.Msg.{Msg}
 use Rattle.definitions.specs.declared.message.Msg.TheVariants as msg
+use Rattle.definitions.specs.declared.message.Order.{Order}
+use Rattle.definitions.specs.declared.message.Order.TheVariants as orders
 use Rattle.definitions.specs.Track.{Line, seg_len, silent_after}
 use Rattle.definitions.specs.Ways.{PlainWay}
 use Rattle.definitions.specs.Limit.{Reach}
-use Rattle.definitions.specs.Steps.{Effect, zone_entry, zone_ask, enter_or_held}
+use Rattle.definitions.specs.Steps.{Effect, zone_entry, zone_ask, zone_order, enter_or_held}
 use Rattle.plain_state.specs.declared.Controlled.{Controlled}
 use Rattle.plain_state.specs.Refinement.{Distinct}
 use Rattle.plain_state.specs.Zone.{PlainZone, find_controlled, full, holder_plain, reach_plain, last_found, way_found, uses_mark, place_found, again_found, zone_answer, zone_acts_on, zone_gives, zone_take_effect, trains_stepped, clock_after}
@@ -43,29 +45,35 @@ again_one : (t : TrainId) (x : Option Controlled) → AtMostOne (again_found t x
 again_one t None = omega arith
 again_one t (Some x) = by_test (nat_lt x.answered x.last) (λ y. rw y (omega arith)) (λ n. rw n (omega arith))
 
-answer_one : (line : Line) (z clock : ℕ) (trains : List Controlled) (m : Msg) → AtMostOne (zone_answer line z clock trains m)
-answer_one line z clock trains (msg.EntryAsk t time long error speed equipped step) =
+order_one : (z : ℕ) (order : Order) → AtMostOne (zone_order z order)
+order_one z (orders.Close seg) = omega arith
+order_one z (orders.Open seg) = omega arith
+order_one z _ = omega arith
+
+answer_one : (line : Line) (z clock : ℕ) (trains : List Controlled) (closed : List Bool) (m : Msg) → AtMostOne (zone_answer line z clock trains closed m)
+answer_one line z clock trains closed (msg.EntryAsk t time long error speed equipped step) =
     entry_one z (is_some (find_controlled t.0 trains)) (full trains) (seg_len line step.seg.0) t long step (holder_plain line z trains step.seg.0)
-answer_one line z clock trains (msg.Ask t time steps to) =
-    ask_one (seg_len line) z t (last_found (find_controlled t.0 trains)) (way_found (find_controlled t.0 trains)) steps.items (reach_plain line z clock trains t.0 steps.items to)
-answer_one line z clock trains (msg.Report t time mark offset integrity) =
+answer_one line z clock trains closed (msg.Ask t time steps to) =
+    ask_one (seg_len line) z t (last_found (find_controlled t.0 trains)) (way_found (find_controlled t.0 trains)) steps.items (reach_plain line z clock trains closed t.0 steps.items to)
+answer_one line z clock trains closed (msg.Report t time mark offset integrity) =
     by_test (uses_mark (find_controlled t.0 trains) mark)
     (λ y. rw y (place_one (seg_len line) z time mark offset integrity (find_controlled t.0 trains)))
     (λ n. rw n (omega arith))
-answer_one line z clock trains (msg.Time time t) = again_one t (find_controlled t.0 trains)
-answer_one line z clock trains _ = omega arith
+answer_one line z clock trains closed (msg.Time time t) = again_one t (find_controlled t.0 trains)
+answer_one line z clock trains closed (msg.Order time order) = order_one z order
+answer_one line z clock trains closed _ = omega arith
 
 pub gives_one : (line : Line) (z : PlainZone) (from : ℕ) (m : Msg) → AtMostOne (zone_gives line z from m)
 gives_one line z from m =
     by_test (zone_acts_on line z from m)
-    (λ y. rw y (answer_one line z.id (clock_after z.clock m) _ m))
+    (λ y. rw y (answer_one line z.id (clock_after z.clock m) _ z.closed m))
     (λ n. rw n (omega arith))
 
 pub stepped_follows : (line : Line) (z : PlainZone) (from : ℕ) (m : Msg) → Distinct z.trains → length z.trains ≤ 256
     → Follows line z.id z.clock (clock_after z.clock m) z.trains (trains_stepped line z from m)
 stepped_follows line z from m d few =
     by_test (zone_acts_on line z from m)
-    (λ y. rw y (after_follows line z.id z.clock (clock_after z.clock m) z.trains d few m refl))
+    (λ y. rw y (after_follows line z.id z.clock (clock_after z.clock m) z.trains d few z.closed m refl))
     (λ n. rw n (grown_follows line z.id z.clock (clock_after z.clock m) z.trains d few))
 
 -- the lines of the message, and the alarms after them

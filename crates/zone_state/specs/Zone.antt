@@ -96,7 +96,7 @@ AllCanGrow before (x ∷ xs) = CanGrow before x × AllCanGrow before xs
 -- a zone whose Now has risen to a time that is later, with the fronts of its trains grown
 abbrev pub passed : ℕ → ZoneKept → ZoneKept
 passed time z = record {
-  plain = record { id = z.plain.id; clock = max z.plain.clock time; trains = map (grown_train (max z.plain.clock time)) z.plain.trains };
+  plain = record z.plain { clock = max z.plain.clock time; trains = map (grown_train (max z.plain.clock time)) z.plain.trains };
   holds = z.holds;
 }
 

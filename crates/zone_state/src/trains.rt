@@ -24,7 +24,7 @@ use track_points::{DirSeg, Path, PointSet, TrainId, ZoneId};
 use way_path::Way;
 use way_path::on_steps::last_step;
 use zone_reach::held::holder;
-use zone_reach::reach::{Reach, barred, reach_from};
+use zone_reach::reach::{Barring, Reach, barred, reach_from};
 use zone_reach::steps::lengthen_way;
 
 /// How many trains have an id below that of a train. They stand before all others.
@@ -252,7 +252,7 @@ impl Zone {
         requires fits { AllFit line.now self.now.plain.clock self.now.plain.trains }
         requires at { position (is_train train.0) self.now.plain.trains ≡ Some i }
         requires within { i < length self.now.plain.trains }
-        ensures reach { reach_value result ≡ reach_plain line.now self.now.plain.id self.now.plain.clock self.now.plain.trains train.0 asked.now to }
+        ensures reach { reach_value result ≡ reach_plain line.now self.now.plain.id self.now.plain.clock self.now.plain.trains self.now.plain.closed train.0 asked.now to }
         ensures fits { ReachFitsFound line.now (path_found (find_controlled train.0 self.now.plain.trains)) asked.now result.distance }
     {
         let trains = self.trains.as_slice();
@@ -260,7 +260,11 @@ impl Zone {
         let ready = x.answered > 0;
         let silent = is_silent(line.silent(), x.report, self.clock);
         let path = x.way.path();
-        reach_from(line, self.id, trains, train, ready, silent, path, asked, to)
+        let bars = Barring {
+            trains,
+            closed: &self.closed,
+        };
+        reach_from(line, self.id, bars, train, ready, silent, path, asked, to)
     }
 
     /// Answers an ask of a train.
@@ -276,8 +280,8 @@ impl Zone {
         requires empty { outs.old ≡ nothing }
         requires fits { ZoneFits line.now self.old }
         requires fresh { list_all fresh_train self.old.plain.trains ≡ true }
-        ensures gives { outs.new ≡ zone_ask (seg_len line.now) self.old.plain.id train (last_found (find_controlled train.0 self.old.plain.trains)) (way_found (find_controlled train.0 self.old.plain.trains)) asked.now (reach_plain line.now self.old.plain.id self.old.plain.clock self.old.plain.trains train.0 asked.now to) }
-        ensures next { self.new.plain ≡ record self.old.plain { trains = trains_asked (seg_len line.now) train.0 asked.now (reach_plain line.now self.old.plain.id self.old.plain.clock self.old.plain.trains train.0 asked.now to) self.old.plain.trains } }
+        ensures gives { outs.new ≡ zone_ask (seg_len line.now) self.old.plain.id train (last_found (find_controlled train.0 self.old.plain.trains)) (way_found (find_controlled train.0 self.old.plain.trains)) asked.now (reach_plain line.now self.old.plain.id self.old.plain.clock self.old.plain.trains self.old.plain.closed train.0 asked.now to) }
+        ensures next { self.new.plain ≡ record self.old.plain { trains = trains_asked (seg_len line.now) train.0 asked.now (reach_plain line.now self.old.plain.id self.old.plain.clock self.old.plain.trains self.old.plain.closed train.0 asked.now to) self.old.plain.trains } }
         ensures fits { ZoneFits line.now self.new }
     {
         let Some(i) = self.index_of(train) else {

@@ -7,9 +7,10 @@ ghost use Rattle.definitions.specs.Track.{layout};
 ghost use Rattle.definitions.specs.Control.{message_time};
 ghost use Rattle.definitions.specs.Steps.{nothing};
 ghost use Rattle.plain_state.specs.Plain.{zone_start};
-ghost use Rattle.plain_state.specs.Zone.{find_controlled, hold_has, zone_acts_on, zone_answer, zone_gives, trains_acted_on, enters_here, fresh_number, fresh_mark, fresh_train, fresh_message, zone_take_effect, zone_take_next};
+ghost use Rattle.plain_state.specs.Zone.{find_controlled, hold_has, closed_at, zone_acts_on, zone_answer, zone_gives, trains_acted_on, closed_acted_on, concerns, fresh_number, fresh_mark, fresh_train, fresh_message, zone_take_effect, zone_take_next};
 ghost use Rattle.zone_state.specs.Zone.{ZoneFits, IsZoneOn, IsEnvelope, InRange, entry_declared};
 
+use crate::orders::is_own;
 use crate::report::PositionReport;
 use crate::trains::Request;
 use line_map::Line;
@@ -17,13 +18,14 @@ use msg_codec::{Msg, Outs};
 use plain_state::Controlled;
 use std::alloc::{AllocError, Global};
 use std::marker::Model;
-use track_points::{PointSet, TrainId, ZoneId};
+use track_points::{PointSet, SegId, TrainId, ZoneId};
+use zone_reach::ClosedSegments;
 
 /// How many trains a zone has room for.
 const ROOM: usize = 256;
 
-/// A zone: its number, the greatest time in any message that it took, the trains that it controls, by ascending id, and
-/// beside each of them the points that it holds for it. Its memory is reserved when it is made.
+/// A zone: its number, the greatest time in any message that it took, the trains that it controls, by ascending id, beside
+/// each of them the points that it holds for it, and which segments are closed. Its memory is reserved when it is made.
 #[derive(Drop)]
 pub struct Zone {
     pub(crate) id: u8,
@@ -32,6 +34,7 @@ pub struct Zone {
     pub(crate) holds: Vec<PointSet>,
     /// Whether no number and no mark of a train is too great.
     pub(crate) fresh: bool,
+    pub(crate) closed: ClosedSegments,
 }
 
 impl Model for Zone {
@@ -40,7 +43,7 @@ impl Model for Zone {
 
     ghost Value = { ZoneKept };
 
-    ghost view = { λ z. record { plain = record { id = z.id; clock = z.clock; trains = z.trains.items }; holds = z.holds.items } };
+    ghost view = { λ z. record { plain = record { id = z.id; clock = z.clock; trains = z.trains.items; closed = z.closed }; holds = z.holds.items } };
 
     ghost invariant = { λ z. (256 ≤ vec_capacity z.trains) × ((256 ≤ vec_capacity z.holds) × AreKept z.trains.items z.holds.items z.fresh) };
 }
@@ -64,14 +67,16 @@ fn message_time(message: &Msg) -> u64
     }
 }
 
-/// Whether a message is no request for entry elsewhere than inward from a portal of the zone.
-fn enters_here(line: &Line, zone: u8, message: &Msg) -> bool
-    ensures here { result ≡ enters_here line.now zone message.now }
+/// Whether a message is no request for entry elsewhere than inward from a portal of the zone, and no order on a segment of
+/// another zone.
+fn concerns(line: &Line, zone: u8, message: &Msg) -> bool
+    ensures here { result ≡ concerns line.now zone message.now }
     ensures declared { result ≡ true → entry_declared line.now message.now ≡ true }
 {
     match message {
         Msg::EntryAsk { step, .. } => line.begins_at_portal(*step)
             && line.zone_of(step.seg).0 == zone,
+        Msg::Order { order, .. } => is_own(line, zone, *order),
         _ => true,
     }
 }
@@ -107,7 +112,7 @@ pub(crate) fn fresh_train(x: &Controlled) -> bool
 }
 
 impl Zone {
-    /// A zone that controls no train.
+    /// A zone that controls no train, with no segment closed.
     pub fn start(alloc: Global, line: &Line, z: ZoneId) -> Result<Zone, AllocError>
         ensures starts { IfOk result (λ zone. zone.plain ≡ zone_start z.0) }
         ensures fits { IfOk result (λ zone. IsZoneOn line.now zone) }
@@ -118,6 +123,7 @@ impl Zone {
             trains: Vec::with_capacity(alloc, ROOM)?,
             holds: Vec::with_capacity(alloc, ROOM)?,
             fresh: true,
+            closed: ClosedSegments::new(alloc)?,
         })
     }
 
@@ -141,7 +147,7 @@ impl Zone {
         ensures declared { result ≡ true → entry_declared line.now message.now ≡ true }
         ensures fresh { result ≡ true → list_all fresh_train self.now.plain.trains ≡ true }
     {
-        from == 0 && enters_here(line, self.id, message) && fresh_message(message) && self.fresh
+        from == 0 && concerns(line, self.id, message) && fresh_message(message) && self.fresh
     }
 
     /// A message acts, which the zone acts on.
@@ -152,8 +158,8 @@ impl Zone {
         requires fresh { list_all fresh_train self.old.plain.trains ≡ true }
         requires empty { outs.old ≡ nothing }
         requires fits { ZoneFits line.now self.old }
-        ensures gives { outs.new ≡ zone_answer line.now self.old.plain.id self.old.plain.clock self.old.plain.trains message.now }
-        ensures next { self.new.plain ≡ record self.old.plain { trains = trains_acted_on line.now self.old.plain.id self.old.plain.clock self.old.plain.trains message.now } }
+        ensures gives { outs.new ≡ zone_answer line.now self.old.plain.id self.old.plain.clock self.old.plain.trains self.old.plain.closed message.now }
+        ensures next { self.new.plain ≡ record self.old.plain { trains = trains_acted_on line.now self.old.plain.id self.old.plain.clock self.old.plain.trains self.old.plain.closed message.now; closed = closed_acted_on message.now self.old.plain.closed } }
         ensures fits { ZoneFits line.now self.new }
     {
         match message {
@@ -197,6 +203,7 @@ impl Zone {
             }
             Msg::Time { train, .. } => self.send_again(*train, outs),
             Msg::Answer { train, number, .. } => self.answer(*train, *number),
+            Msg::Order { order, .. } => self.order(*order, outs),
             _ => {}
         }
     }
@@ -240,6 +247,13 @@ impl Zone {
             None => PointSet::empty(),
             Some(i) => self.holds[i].copy(),
         }
+    }
+
+    /// Whether a segment is closed.
+    pub fn is_closed(&self, seg: SegId) -> bool
+        ensures { result ≡ closed_at self.now.plain.closed seg.0 }
+    {
+        self.closed.has(seg)
     }
 
     /// The points that a train may have: those of its way from its least rear to its greatest front.

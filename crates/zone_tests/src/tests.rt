@@ -1,11 +1,11 @@
-//! A zone on a line of three segments one after the other, the last of them another zone's.
+//! A zone on a line of four segments one after the other, the third of them another zone's.
 ghost use Rattle.std.specs.Prelude.{◌≡◌, true};
 ghost use Rattle.zone_state.specs.Zone.{IsZoneOn, InRange};
 
 use arrayvec::ArrayVec;
 use definitions::outcome::{Obstacle, Refusal};
 use line_map::{End, Item, Line, LineBuilder, LineFault};
-use msg_codec::{Msg, Outcome, Outs};
+use msg_codec::{Msg, Order, Outcome, Outs};
 use std::alloc::Global;
 use std::process::Abort;
 use track_points::{Dir, DirSeg, PointSet, SegId, TrainId, ZoneId};
@@ -15,7 +15,7 @@ fn end(segment: u64, dir: Dir) -> End {
     End { segment, dir }
 }
 
-/// Segment 1 of 100 mm after a portal, segment 2 of 50 mm, and segment 3 of 30 mm, which is of zone 2.
+/// Segment 1 of 100 mm after a portal, segment 2 of 50 mm, segment 3 of 30 mm, which is of zone 2, and segment 4 of 40 mm.
 fn line_of(alloc: Global) -> Result<Line, LineFault> {
     let mut builder = LineBuilder::new(alloc).map_err(|_| LineFault::Memory)?;
     let items = [
@@ -24,10 +24,12 @@ fn line_of(alloc: Global) -> Result<Line, LineFault> {
         Item::Segment(1, 1, 100),
         Item::Segment(2, 1, 50),
         Item::Segment(3, 2, 30),
+        Item::Segment(4, 1, 40),
         Item::Joint(end(1, Dir::Up), end(2, Dir::Down)),
         Item::Joint(end(2, Dir::Up), end(3, Dir::Down)),
+        Item::Joint(end(3, Dir::Up), end(4, Dir::Down)),
         Item::Portal(end(1, Dir::Down)),
-        Item::Buffer(end(3, Dir::Up)),
+        Item::Buffer(end(4, Dir::Up)),
     ];
     for item in &items {
         builder.add(item)?;
@@ -113,6 +115,11 @@ fn time(time: u64) -> Msg {
     }
 }
 
+/// An order at time 0.
+fn order(order: Order) -> Msg {
+    Msg::Order { time: 0, order }
+}
+
 /// Train 7 has its rear on a step at an offset, and its front on another.
 fn place(rear: u16, rear_offset: u32, front: u16, front_offset: u32) -> Option<Outcome> {
     Some(Outcome::Place(
@@ -176,6 +183,24 @@ fn granted(
         line: Some(Outcome::Grant(ZoneId(1), TrainId(train), number, up(seg), to, obstacle)),
         sent: Some((0, number, mark, to)),
     }
+}
+
+/// A segment is closed.
+fn closes(seg: u16) -> Case {
+    let line = Outcome::Closed(ZoneId(1), SegId(seg));
+    comes_to(0, order(Order::Close(SegId(seg))), 0, Some(line))
+}
+
+/// A segment is opened.
+fn opens(seg: u16) -> Case {
+    let line = Outcome::Opened(ZoneId(1), SegId(seg));
+    comes_to(0, order(Order::Open(SegId(seg))), 0, Some(line))
+}
+
+/// An ask of train 7 for segment 4 up to an offset is denied.
+fn denied(to: u32, obstacle: Obstacle) -> Case {
+    let line = Outcome::Deny(ZoneId(1), TrainId(7), obstacle);
+    comes_to(0, ask(0, &[up(4)], to), 0, Some(line))
 }
 
 /// The authority of a number is sent again, by a path of a mark that ends at an offset.
@@ -286,8 +311,25 @@ fn shown(line: &Line, zone: &Zone) -> ([u8; 9], [u8; 9])
     (cells(&zone.held(TrainId(7))), envelope)
 }
 
-/// A zone without trains takes the messages one after the other, and shows of train 7 these cells at the end.
-fn check(rt: &impl Abort, alloc: Global, cases: &[Case], cells: ([u8; 9], [u8; 9])) {
+/// Which of the segments 1 to 4 are closed.
+fn closed(zone: &Zone) -> [bool; 4] {
+    [
+        zone.is_closed(SegId(1)),
+        zone.is_closed(SegId(2)),
+        zone.is_closed(SegId(3)),
+        zone.is_closed(SegId(4)),
+    ]
+}
+
+/// A zone without trains takes the messages one after the other, and shows of train 7 these cells at the end, and which
+/// segments are closed.
+fn check_closed(
+    rt: &impl Abort,
+    alloc: Global,
+    cases: &[Case],
+    cells: ([u8; 9], [u8; 9]),
+    closed_segments: [bool; 4],
+) {
     let Ok(line) = line_of(alloc) else {
         panic!(rt; "no line");
     };
@@ -301,6 +343,12 @@ fn check(rt: &impl Abort, alloc: Global, cases: &[Case], cells: ([u8; 9], [u8; 9
     run(rt, &line, &mut zone, &mut outs, cases);
     let (held, envelope) = shown(&line, &zone);
     assert!(rt; held == cells.0 && envelope == cells.1);
+    assert!(rt; closed(&zone) == closed_segments);
+}
+
+/// The same where no segment is closed.
+fn check(rt: &impl Abort, alloc: Global, cases: &[Case], cells: ([u8; 9], [u8; 9])) {
+    check_closed(rt, alloc, cases, cells, [false; 4]);
 }
 
 #[test]
@@ -491,4 +539,47 @@ fn a_train_falls_silent(rt: HostRuntime) {
         comes_to(0, time(11_001), 11_001, alarm),
     ];
     check(&rt, rt.alloc(), &cases, (*b".#######.", *b".#######."));
+}
+
+/// Train 7 is granted a way up to the closed segment 4, and no further. Segment 2 is closed too, which lies on its way and bars
+/// nothing beyond it. Train 8 comes up behind, where segment 2 is both closed and held.
+#[test]
+fn a_segment_is_closed(rt: HostRuntime) {
+    let held = Some(Outcome::Deny(ZoneId(1), TrainId(8), Obstacle::Held));
+    let to_4 = ask(0, &[up(2), up(3), up(4)], 40);
+    let cases = [
+        enters(7, entry_of(7, 0, 40, 1000), 0),
+        comes_to(0, answer(0), 0, None),
+        closes(4),
+        granted(7, to_4, 0, (2, 0), (3, 30), Obstacle::Closed),
+        denied(40, Obstacle::Closed),
+        denied(0, Obstacle::AskEnds),
+        closes(4),
+        closes(2),
+        comes_to(0, order(Order::Close(SegId(3))), 0, None),
+        comes_to(2, order(Order::Open(SegId(4))), 0, None),
+        denied(40, Obstacle::Closed),
+        opens(4),
+        opens(4),
+        granted(
+            7,
+            ask(0, &[up(4)], 10),
+            0,
+            (3, 0),
+            (4, 10),
+            Obstacle::AskEnds,
+        ),
+        comes_to(0, report(110, 1, 45), 110, place(2, 0, 2, 50)),
+        enters(8, entry(8, 110, 40), 110),
+        comes_to(0, answer_of(8, 110, 1), 110, None),
+        comes_to(0, ask_of(8, 110, &[up(2)], 50), 110, held),
+    ];
+    let closed = [false, true, false, false];
+    check_closed(
+        &rt,
+        rt.alloc(),
+        &cases,
+        (*b"......##.", *b"......##."),
+        closed,
+    );
 }

@@ -320,11 +320,62 @@ line 2 rule 4
 silent 3600000
 - 3
 line 2 rule 1
-= brake is not built
+= a brake without ticks
+zone 1
+brake 0 0 100
+- 0
+done 0
+= a brake at its bounds
+zone 1
+brake 1000 100000 100000
+- 0
+done 0
+= rule 2 of brake before rule 4
 zone 1
 brake 50 0 1000
-- 10
-unbuilt 2
+brake 1001 0 150
+- 3
+line 3 rule 2
+= rule 4 of brake, its ticks
+zone 1
+brake 1001 0 1000
+- 3
+line 2 rule 4
+= rule 4 of brake before rule 18
+zone 1
+brake 50 100001 150
+- 3
+line 2 rule 4
+= rule 4 of brake, its rate
+zone 1
+brake 50 0 100001
+- 3
+line 2 rule 4
+= rule 18 of the rate
++ four segments
+brake 50 0 150
+- 3
+line 11 rule 18
+= rule 18 of no rate
+zone 1
+brake 50 0 0
+- 3
+line 2 rule 18
+= rule 18 of the runaway
+zone 1
+brake 50 150 1000
+- 3
+line 2 rule 18
+= rule 18 of the longest stop
+zone 1
+brake 880 67600 100
+- 3
+line 2 rule 18
+= a long stop that is short enough
+zone 1
+brake 933 92800 200
+- 0
+done 0
 = switch is not built
 + four segments
 switch 1 1+ 2- 3- 10
@@ -2331,19 +2382,28 @@ keepfail 1 old
 + four segments
 script
 unbuilt 12
-= orders are not built, whatever they name
+= an order on what is not declared
 + four segments
 script
 order close 99
-- 10
-unbuilt 12
-= orders are not built in a check
+- 4
+script 12 column 13
+= orders in a check
 + four segments
 script
 order close 2
-* 10
+order open 2
+* 0
 + four segments
 script
+order close 2
+order open 2
+done 2
+= further orders are not built, whatever they name
++ four segments
+script
+order turn 99 +
+- 10
 unbuilt 12
 = unequipped trains are not built, whatever their fields
 + four segments
@@ -2384,11 +2444,185 @@ take 2 2 1
 - 4
 script 12 column 6";
 
+/// Segments that are closed and opened again.
+const CLOSURES: &str = "
+= a closed segment ahead
++ four segments
++ asks for entry
++ comes on
+order close 3
+take 1 0 3
+ask 7 1 2+ 3+ 300000
+take 1 0 4
+take 1 0 4
+order open 3
+take 1 0 5
+take 1 0 4
+- 0
+entry 1 7 1
+answer 7 1 taken
+closed 1 3
+grant 1 7 2 2+ 300000 7
+deny 1 7 7
+opened 1 3
+grant 1 7 3 3+ 300000 1
+done 14
+= a close takes nothing back
++ four segments
++ asks for entry
++ comes on
++ goes on
+order close 2
+take 1 0 4
++ moves
+- 0
+entry 1 7 1
+answer 7 1 taken
+grant 1 7 2 3+ 300000 1
+closed 1 2
+answer 7 2 taken
+done 12
+= closed where the limit stands
++ four segments
++ asks for entry
++ comes on
+ask 7 1 2+ 100000
+take 1 0 3
+order close 2
+take 1 0 4
+ask 7 1 2+ 200000
+take 1 0 5
+order open 2
+take 1 0 6
+take 1 0 5
+- 0
+entry 1 7 1
+answer 7 1 taken
+grant 1 7 2 2+ 100000 1
+closed 1 2
+deny 1 7 7
+opened 1 2
+grant 1 7 3 2+ 200000 1
+done 15
+= closed segments behind the limit
++ four segments
++ asks for entry
++ comes on
+ask 7 1 2+ 300000
+take 1 0 3
+order close 1
+order close 2
+take 1 0 4
+take 1 0 5
+ask 7 1 3+ 100
+take 1 0 6
+- 0
+entry 1 7 1
+answer 7 1 taken
+grant 1 7 2 2+ 300000 1
+closed 1 1
+closed 1 2
+grant 1 7 3 3+ 100 1
+done 14
+= the end of the ask before what is closed
++ four segments
++ asks for entry
++ comes on
+ask 7 1 2+ 100000
+take 1 0 3
+order close 2
+take 1 0 4
+ask 7 1 2+ 50000
+take 1 0 5
+- 0
+entry 1 7 1
+answer 7 1 taken
+grant 1 7 2 2+ 100000 1
+closed 1 2
+deny 1 7 1
+done 12
+= held and closed at one place
++ four segments
++ trains
++ both on
+order close 4
+take 1 0 5
+ask 7 1 2+ 3+ 4+ 100000
+take 1 0 6
+- 0
+entry 1 7 1
+entry 1 8 1
+answer 7 1 taken
+answer 8 1 taken
+closed 1 4
+grant 1 7 2 3+ 300000 3
+done 18
+= orders given twice
++ four segments
+script
+order close 2
+take 1 0 1
+take 1 0 1
+order open 2
+take 1 0 2
+take 1 0 2
+- 0
+closed 1 2
+closed 1 2
+opened 1 2
+opened 1 2
+done 6
+= orders taken in reverse order
++ four segments
++ asks for entry
++ comes on
+order close 3
+order open 3
+take 1 0 4
+take 1 0 3
+ask 7 1 2+ 3+ 300000
+take 1 0 5
+- 0
+entry 1 7 1
+answer 7 1 taken
+opened 1 3
+closed 1 3
+grant 1 7 2 2+ 300000 7
+done 12
+= a train under a brake of its line
++ four segments
+brake 0 0 100000
+script
+train 7 60000 2000 20000 eq
+entry 7 1+
+deliver 1
+deliver 0
+enter 7
+deliver 1
+ask 7 1 2+ 100000
+deliver 1
+deliver 0
+step 1000 7 20000
+ask 7 1 2+ 300000
+deliver 1
+deliver 0
+deliver 0
+take 0 1 2
+- 0
+entry 1 7 1
+answer 7 1 taken
+grant 1 7 2 2+ 100000 1
+answer 7 2 taken
+grant 1 7 3 2+ 300000 1
+answer 7 3 taken
+answer 7 3 taken
+done 15";
+
 /// All tables.
 pub const TABLES: &[&str] = &[
     WORKED, RULES, TEXTS, MESSAGES, SEVERAL, MOTION, PREMISES, REPORTS, SILENCE, DELIVERIES, FORMS,
-    NOISE, CHECKS,
+    NOISE, CHECKS, CLOSURES,
 ];
 
 /// How many rows stand in them.
-pub const ROWS: u32 = 192;
+pub const ROWS: u32 = 212;

@@ -1,4 +1,4 @@
-//! A train from its declaration on: it asks for entry, comes on, reports, and moves; and noise.
+//! A train from its declaration on: it asks for entry, comes on, reports, decides on authorities, and moves; orders and noise.
 ghost use Rattle.std.specs.Prelude.{◌≡◌, true, length, IfOk};
 ghost use Rattle.definitions.specs.Rules.{is_line};
 ghost use Rattle.definitions.specs.Premises.{ascending};
@@ -7,12 +7,13 @@ ghost use Rattle.world_sim.specs.World.{StepFits, IsBuilt, IsWorldOn};
 use crate::tests::line::{line_of, path, steps_of, up};
 use arrayvec::ArrayVec;
 use definitions::event::{Event, Kind};
-use definitions::message::Msg;
+use definitions::message::{Msg, Order};
+use definitions::outcome::AnswerWord;
 use line_map::Line;
 use msg_codec::{FrameFault, Outcome, Outs};
 use std::alloc::{AllocError, Global};
 use std::process::Abort;
-use track_points::{DirSeg, TrainId, ZoneId};
+use track_points::{DirSeg, SegId, TrainId, ZoneId};
 use world_sim::{Premise, World};
 
 #[tactic(auto, using(world_sim::proofs::Event_stays::start_on))]
@@ -33,12 +34,12 @@ fn is_ascending(train: u16, moves: &[(TrainId, u32)]) -> bool
     }
 }
 
-/// Whether there is room for one more train, the speed fits a message, and the clock does not run over.
+/// Whether there is room for one more train, the speed has a stop, and the clock does not run over.
 fn fits(world: &World, event: &Event) -> bool
     ensures { result ≡ true → StepFits world.now event.now }
 {
     match event {
-        Event::Train(_, _, _, speed, _) => world.count() < 256 && *speed < 65_536,
+        Event::Train(_, _, _, speed, _) => world.count() < 256 && *speed <= 60_000,
         Event::Step(ms, _) => world.clock() < 1_000_000_000 && *ms < 1_000_000_000,
         _ => true,
     }
@@ -95,7 +96,71 @@ fn report(offset: i32) -> Event {
 fn place_of(world: &World) -> Option<(u32, u32)> {
     let train = world.find(TrainId(7))?;
     let head = train.head?;
-    Some((head.offset, train.room))
+    Some((head.offset, train.onboard.room()))
+}
+
+/// An authority of zone 3 for train 7, from the start of a segment to an offset on another: its number, the two segments,
+/// and the offset. What the train answers, and its room from then on.
+type Case = (u32, [u16; 2], u32, (u32, AnswerWord), u32);
+
+/// Whether this one answer is sent to zone 3, and told.
+fn is_answer(outs: &Outs, wanted: (u32, AnswerWord)) -> bool {
+    let sent = match outs.messages() {
+        [
+            (
+                to,
+                Msg::Answer {
+                    train,
+                    number,
+                    taken,
+                    ..
+                },
+            ),
+        ] => {
+            *to == 3
+                && train.0 == 7
+                && *number == wanted.0
+                && *taken == (wanted.1 == AnswerWord::Taken)
+        }
+        _ => false,
+    };
+    let told = match outs.lines() {
+        [Outcome::Answer(train, number, word)] => {
+            train.0 == 7 && *number == wanted.0 && *word == wanted.1
+        }
+        _ => false,
+    };
+    sent && told
+}
+
+/// The train takes an authority.
+fn decides(rt: &impl Abort, world: &mut World, line: &Line, case: &Case, outs: &mut Outs)
+    requires { IsWorldOn line.now world.old }
+    ensures { IsWorldOn line.now world.new }
+{
+    let (number, [first, last], to, wanted, room) = *case;
+    let mut steps: ArrayVec<DirSeg, 3> = ArrayVec::new();
+    for seg in first..=last.min(3) {
+        let _ = steps.try_push(up(seg));
+    }
+    outs.clear();
+    world.take(line, 3, &authority(number, steps.as_slice(), to), outs);
+    assert!(rt; is_answer(outs, wanted), "at {number}, {to}");
+    let found = place_of(world);
+    assert!(rt;
+        matches!(found, Some((_, mm)) if mm == room),
+        "at {number}, {to}"
+    );
+}
+
+/// The train takes an authority after another.
+fn decides_all(rt: &impl Abort, world: &mut World, line: &Line, cases: &[Case], outs: &mut Outs)
+    requires { IsWorldOn line.now world.old }
+    ensures { IsWorldOn line.now world.new }
+{
+    for case in cases {
+        decides(rt, world, line, case, outs);
+    }
 }
 
 /// The train is declared, and asks for entry.
@@ -121,9 +186,21 @@ fn comes_on(rt: &impl Abort, world: &mut World, line: &Line, outs: &mut Outs)
     assert!(rt; go(rt, world, line, &report(406), outs) == 101);
     assert!(rt; go(rt, world, line, &step(31, 601), outs) == 104);
     assert!(rt; world.count() == 1 && place_of(world) == Some((400, 600)));
-    outs.clear();
-    world.take(line, 3, &authority(2, &[up(1), up(2)], 300), outs);
 }
+
+const STANDING: [Case; 7] = [
+    // a path off the head
+    (2, [2, 2], 300, (2, AnswerWord::Refused), 600),
+    // no number above the last
+    (2, [1, 2], 300, (2, AnswerWord::Refused), 600),
+    (1, [1, 2], 300, (2, AnswerWord::Refused), 600),
+    // limits farther and nearer
+    (3, [1, 2], 300, (3, AnswerWord::Taken), 900),
+    (4, [1, 1], 1_000, (4, AnswerWord::Taken), 600),
+    (5, [1, 2], 300, (5, AnswerWord::Taken), 900),
+    // no number above the last
+    (5, [2, 2], 300, (5, AnswerWord::Taken), 900),
+];
 
 /// The train moves on, and asks.
 fn moves_on(rt: &impl Abort, world: &mut World, line: &Line, outs: &mut Outs)
@@ -132,10 +209,34 @@ fn moves_on(rt: &impl Abort, world: &mut World, line: &Line, outs: &mut Outs)
 {
     assert!(rt; go(rt, world, line, &step(29, 581), outs) == 102);
     assert!(rt; go(rt, world, line, &step(30, 600), outs) == 0);
+    let nearer = (6, [1, 2], 299, (6, AnswerWord::Refused), 300);
+    decides(rt, world, line, &nearer, outs);
     let ask = Event::Ask(TrainId(7), ZoneId(3), steps_of(&[up(2)]), 400);
     assert!(rt; go(rt, world, line, &ask, outs) == 1);
     assert!(rt; go(rt, world, line, &Event::Time(ZoneId(3), TrainId(7)), outs) == 1);
     assert!(rt; world.clock() == 30 && place_of(world) == Some((1000, 300)));
+}
+
+/// The train stands, and segments are closed and opened.
+fn stands(rt: &impl Abort, world: &mut World, line: &Line, outs: &mut Outs)
+    requires { IsWorldOn line.now world.old }
+    ensures { IsWorldOn line.now world.new }
+{
+    assert!(rt; go(rt, world, line, &Event::Step(1, ArrayVec::new()), outs) == 0);
+    let nearer = (7, [1, 2], 299, (7, AnswerWord::Taken), 299);
+    decides(rt, world, line, &nearer, outs);
+    assert!(rt; go(rt, world, line, &Event::Close(SegId(2)), outs) == 1);
+    assert!(rt; is_order(outs, Order::Close(SegId(2))));
+    assert!(rt; go(rt, world, line, &Event::Open(SegId(2)), outs) == 1);
+    assert!(rt; is_order(outs, Order::Open(SegId(2))));
+}
+
+/// Whether this one order is sent to zone 3, at the time 31.
+fn is_order(outs: &Outs, wanted: Order) -> bool {
+    match outs.messages() {
+        [(to, Msg::Order { time, order })] => *to == 3 && *time == 31 && *order == wanted,
+        _ => false,
+    }
 }
 
 fn noise(bytes: &[u8]) -> Event {
@@ -171,6 +272,8 @@ fn a_train_comes_on_and_moves(rt: HostRuntime) {
     };
     asks_for_entry(&rt, &mut world, &line, &mut outs);
     comes_on(&rt, &mut world, &line, &mut outs);
+    decides_all(&rt, &mut world, &line, &STANDING, &mut outs);
     moves_on(&rt, &mut world, &line, &mut outs);
+    stands(&rt, &mut world, &line, &mut outs);
     hears_noise(&rt, &mut world, &line, &mut outs);
 }

@@ -1,15 +1,16 @@
 use Rattle.std.proofs.Common.{refl, sym, ap}
 use Rattle.plain_state.specs.declared.WorldTrain.{WorldTrain}
 use Rattle.plain_state.specs.World.{asked_at_portal}
-use Rattle.world_sim.proofs.Changed_is.{found_is, absent, changed_is, unchanged, kept_set}
+use Rattle.world_sim.proofs.Changed_is.{found_is, absent, changed_is, unchanged, kept_is, kept_set}
 use Rattle.world_sim.proofs.world.World.entry.Goals as goal
 
 pub invariant_of-self : goal.invariant_of-self
 invariant_of-self c =
-    let l = rw (sym c.self.view_is) at c.in-Some.ensures.within in (
+    let l = rw (sym c.self.view_is) at c.in-Some.ensures.within in
+    let k = kept_is c.self.inside.places c.self.inside.trains.items c.in-Some.i c.index_mut.result.now c.self.invariant.1 l c.index_mut.ensures.value in (
       c.self.invariant.0,
-      kept_set c.self.inside.places c.self.inside.trains.items c.in-Some.i c.index_mut.result.now c.ask_entry.new.train c.self.invariant.1 l c.index_mut.ensures.value
-          (ap (λ (x : WorldTrain). x.id) c.ask_entry.ensures) (ap (λ (x : WorldTrain). x.speed) c.ask_entry.ensures),
+      kept_set c.self.inside.places c.self.inside.trains.items c.in-Some.i c.index_mut.result.now c.ask_entry.new.train c.self.invariant.1 c.index_mut.ensures.value
+          (ap (λ (x : WorldTrain). x.id) c.ask_entry.ensures) (rw c.ask_entry.ensures k),
     )
 
 pub returns-in-Some-clause-gives : goal.returns-in-Some-clause-gives

@@ -1,47 +1,48 @@
-use Rattle.std.proofs.Common.{true, false, refl, sym, ◌∙◌}
+use Rattle.std.proofs.Common.{refl, sym, ap, ◌∙◌}
+use Rattle.braking_table.specs.Brake.{stop_of}
 use Rattle.definitions.specs.Track.{seg_len}
-use Rattle.plain_state.specs.World.{took_auth}
-use Rattle.world_sim.proofs.Changed_is.{found_is, absent, changed_is, unchanged, put_same, kept_set}
-use Rattle.world_sim.proofs.Event_stays.{acts_on_is, took_keeps}
+use Rattle.plain_state.specs.World.{PlainWorld, took_auth}
+use Rattle.world_sim.specs.World.{answering}
+use Rattle.world_sim.proofs.Changed_is.{found_is, absent, unchanged, kept_is, kept_set}
+use Rattle.world_sim.proofs.Stays_kept.{took_id, took_kept}
+use Rattle.world_sim.proofs.Answers_is.{answers_is, takes_is}
 use Rattle.world_sim.proofs.world.World.take_auth.Goals as goal
 
 pub invariant_of-self : goal.invariant_of-self
 invariant_of-self c =
     let l = rw (sym c.self.view_is) at c.in-Some.ensures.within in
-    let k = took_keeps (seg_len c.args.line.now) c.args.from c.args.number c.args.mark c.args.path.now c.take_authority.result c.index_mut-found.result.now c.take_authority.new.train c.take_authority.ensures.next in
-    (c.self.invariant.0, kept_set c.self.inside.places c.self.inside.trains.items c.in-Some.i c.index_mut-found.result.now c.take_authority.new.train c.self.invariant.1 l c.index_mut-found.ensures.value k.0 k.1)
+    let x = c.index_mut-found.result.now in
+    let k = kept_is c.self.inside.places c.self.inside.trains.items c.in-Some.i x c.self.invariant.1 l c.index_mut-found.ensures.value in
+    let next = c.take_authority-verdict.ensures.next in
+    let len = seg_len c.args.line.now in (
+      c.self.invariant.0,
+      kept_set c.self.inside.places c.self.inside.trains.items c.in-Some.i x c.take_authority-verdict.new.train c.self.invariant.1 c.index_mut-found.ensures.value
+          (took_id len c.stop-stop.result c.args.from c.args.number c.args.mark c.args.path.now x c.take_authority-verdict.new.train next)
+          (took_kept len c.stop-stop.result c.args.from c.args.number c.args.mark c.args.path.now x c.take_authority-verdict.new.train k next),
+    )
 
--- whether the world acts on the authority
-pub returns-then-take_authority-clause-gives : goal.returns-then-take_authority-clause-gives
-returns-then-take_authority-clause-gives c =
+pub returns-in-Some-clause-gives : goal.returns-in-Some-clause-gives
+returns-in-Some-clause-gives c =
     let h = rw (sym c.self.view_is) at (sym c.in-Some.ensures.first) in
-    let f = found_is c.args.train.0 c.self.inside.trains.items c.in-Some.i c.index_mut-found.result.now h c.index_mut-found.ensures.value in
-    let y = acts_on_is c.args.line.now c.args.train c.args.number c.args.mark c.args.path.now c.index_mut-found.result.now c.self.inside.trains.items true f c.requires.fits (sym c.if-take_authority.true ∙ c.take_authority.ensures.acts_on) in
-    rw (← c.self.view_is, y, f) (rw c.is_some-on.ensures at c.auth_answer.ensures)
+    let x = c.index_mut-found.result.now in
+    let f = found_is c.args.train.0 c.self.inside.trains.items c.in-Some.i x h c.index_mut-found.ensures.value in
+    let w : PlainWorld = record { brake = c.self.inside.stops; clock = c.self.inside.clock; trains = c.self.inside.trains.items } in
+    let stop = c.stop-stop.ensures.exact ∙ ap (stop_of c.self.inside.stops) c.last_speed.ensures in
+    rw (← c.self.view_is)
+    (c.auth_answer.ensures
+    ∙ (ap (answering c.self.inside.clock c.args.train c.args.from c.args.number) (rw stop at c.take_authority-verdict.ensures.answer)
+    ∙ answers_is c.args.line.now w c.args.train c.args.from c.args.number c.args.mark c.args.path.now x f c.requires.fits))
 
-pub returns-then-take_authority-clause-next : goal.returns-then-take_authority-clause-next
-returns-then-take_authority-clause-next c =
+pub returns-in-Some-clause-next : goal.returns-in-Some-clause-next
+returns-in-Some-clause-next c =
     let h = rw (sym c.self.view_is) at (sym c.in-Some.ensures.first) in
-    let f = found_is c.args.train.0 c.self.inside.trains.items c.in-Some.i c.index_mut-found.result.now h c.index_mut-found.ensures.value in
-    let y = acts_on_is c.args.line.now c.args.train c.args.number c.args.mark c.args.path.now c.index_mut-found.result.now c.self.inside.trains.items true f c.requires.fits (sym c.if-take_authority.true ∙ c.take_authority.ensures.acts_on) in
-    let n = rw c.if-take_authority.true at c.take_authority.ensures.next in
-    let e = changed_is c.args.train.0 (took_auth (seg_len c.args.line.now) c.args.from c.args.number c.args.mark c.args.path.now) c.self.inside.trains.items c.in-Some.i c.index_mut-found.result.now c.take_authority.new.train h c.index_mut-found.ensures.value n in
-    rw (← c.self.view_is, y, e) refl
-
-pub returns-else-take_authority-clause-gives : goal.returns-else-take_authority-clause-gives
-returns-else-take_authority-clause-gives c =
-    let h = rw (sym c.self.view_is) at (sym c.in-Some.ensures.first) in
-    let f = found_is c.args.train.0 c.self.inside.trains.items c.in-Some.i c.index_mut-found.result.now h c.index_mut-found.ensures.value in
-    let y = acts_on_is c.args.line.now c.args.train c.args.number c.args.mark c.args.path.now c.index_mut-found.result.now c.self.inside.trains.items false f c.requires.fits (sym c.if-take_authority.false ∙ c.take_authority.ensures.acts_on) in
-    rw (← c.self.view_is, y) c.requires.empty
-
-pub returns-else-take_authority-clause-next : goal.returns-else-take_authority-clause-next
-returns-else-take_authority-clause-next c =
-    let h = rw (sym c.self.view_is) at (sym c.in-Some.ensures.first) in
-    let f = found_is c.args.train.0 c.self.inside.trains.items c.in-Some.i c.index_mut-found.result.now h c.index_mut-found.ensures.value in
-    let y = acts_on_is c.args.line.now c.args.train c.args.number c.args.mark c.args.path.now c.index_mut-found.result.now c.self.inside.trains.items false f c.requires.fits (sym c.if-take_authority.false ∙ c.take_authority.ensures.acts_on) in
-    let n = rw c.if-take_authority.false at c.take_authority.ensures.next in
-    rw (← c.self.view_is, y, put_same c.self.inside.trains.items c.in-Some.i c.index_mut-found.result.now c.take_authority.new.train c.index_mut-found.ensures.value n) refl
+    let x = c.index_mut-found.result.now in
+    let f = found_is c.args.train.0 c.self.inside.trains.items c.in-Some.i x h c.index_mut-found.ensures.value in
+    let w : PlainWorld = record { brake = c.self.inside.stops; clock = c.self.inside.clock; trains = c.self.inside.trains.items } in
+    let stop = c.stop-stop.ensures.exact ∙ ap (stop_of c.self.inside.stops) c.last_speed.ensures in
+    rw (← c.self.view_is)
+    (takes_is c.args.line.now w c.args.train c.args.from c.args.number c.args.mark c.args.path.now c.in-Some.i x c.take_authority-verdict.new.train h c.index_mut-found.ensures.value f c.requires.fits
+    (rw stop at c.take_authority-verdict.ensures.next))
 
 pub returns-in_default-clause-gives : goal.returns-in_default-clause-gives
 returns-in_default-clause-gives c =
@@ -53,4 +54,6 @@ pub returns-in_default-clause-next : goal.returns-in_default-clause-next
 returns-in_default-clause-next c =
     let h = rw (sym c.self.view_is) at (sym c.in_default.ensures.first) in
     let f = absent c.args.train.0 c.self.inside.trains.items h in
-    rw (← c.self.view_is, c.requires.fits, f, unchanged c.args.train.0 (took_auth (seg_len c.args.line.now) c.args.from c.args.number c.args.mark c.args.path.now) c.self.inside.trains.items h) refl
+    rw
+    (← c.self.view_is, c.requires.fits, f, unchanged c.args.train.0 (took_auth (seg_len c.args.line.now) c.self.inside.stops c.self.inside.clock c.args.from c.args.number c.args.mark c.args.path.now) c.self.inside.trains.items h)
+    refl

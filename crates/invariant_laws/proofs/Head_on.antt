@@ -7,20 +7,21 @@ use Rattle.std.proofs.Math.Seq.{take-add, drop-append_seam, take-append_seam}
 use Rattle.std.specs.Prelude.{nat_le, slice_get}
 use Rattle.list_laws.proofs.By_test.{by_test}
 use Rattle.track_points.specs.declared.ids.DirSeg.{DirSeg}
-use Rattle.track_points.specs.Points.{total, steps_to}
+use Rattle.track_points.specs.Points.{total, place_of_last, steps_to}
 use Rattle.definitions.specs.Track.{Line, seg_len, last_step}
-use Rattle.definitions.specs.Rules.{is_line}
 use Rattle.definitions.specs.Premises.{head_offset}
 use Rattle.definitions.specs.Story.{Story}
 use Rattle.definitions.specs.World.{Authority, route, authority_end, entered, head, journey}
 use Rattle.definitions.specs.Control.{controls}
 use Rattle.definitions.specs.Longest.{longest_end, longest_route}
 use Rattle.definitions.specs.Zones.{zone_id}
-use Rattle.way_laws.proofs.Cut_front.{cut_front, total_append}
-use Rattle.way_laws.proofs.Cut_cut.{cut_cut, cut_longer}
-use Rattle.invariant_laws.proofs.Invariant.{step_begin, AuthorityIs, Invariant}
+use Rattle.motion_laws.proofs.Motion.{place, Motion}
+use Rattle.way_laws.proofs.Cut_front.{cut_front, cut_end, total_append}
+use Rattle.way_laws.proofs.Cut_cut.{before_last, cut_cut, cut_longer}
+use Rattle.journey_laws.proofs.Journey_track.{journey_ends}
+use Rattle.invariant_laws.proofs.Invariant.{step_begin, AuthorityIs, Authorized}
 use Rattle.invariant_laws.proofs.One_route.{OneRoute, one_route}
-use Rattle.front_laws.proofs.Head_place.{place_on, head_place, head_on_track}
+use Rattle.invariant_laws.proofs.First_steps.{controlled_reaches}
 
 -- Places of a list.
 
@@ -60,9 +61,21 @@ on_behind j m before steps l a b =
     ap (λ xs. slice_get xs (j - 1 - m)) (sym d) ∙ slice_behind m (j - 1 - m) (before ++ steps) (omega (arith, a, b, n, l)) ∙ ap (slice_get (before ++ steps)) e
 
 -- A train that its zone controls.
-module _ (line : Line) (t : ℕ) (s : Story) (valid : is_line line ≡ true) (invariant : Invariant line t s) (c : controls (zone_id line) t s ≡ true) where
+module _ (line : Line) (t : ℕ) (s : Story) (k : Authorized line t s) (motion : Motion t s) (c : controls (zone_id line) t s ≡ true) where
+  pub place_on : entered t s ≡ true → place t s ≡ head t s
+  place_on on = rw on refl
+
   one : OneRoute line t s (longest_route line t s) (longest_end line t s)
-  one = one_route line t s invariant.authorized c invariant.motion
+  one = one_route line t s k c motion
+
+  -- the step of the head begins as far before it as the offset there says
+  pub head_place : step_begin line t s (length (journey line t s) - 1) + head_offset line t s ≡ head t s
+  head_place =
+      let len = seg_len line in
+      let steps = journey line t s in
+      sym (before_last len steps (head_offset line t s))
+      ∙ ap (λ xs. place_of_last len xs (head_offset line t s)) (sym (journey_ends line t s))
+      ∙ cut_end len steps (head t s) (controlled_reaches line t s k c motion)
 
   -- an authority has no more steps than the one route up to its end
   pub steps_few : (a : Authority) → AuthorityIs line t s a → a.mark + length a.path.steps.items ≤ length (steps_to (seg_len line) (longest_route line t s) (longest_end line t s))
@@ -73,7 +86,7 @@ module _ (line : Line) (t : ℕ) (s : Story) (valid : is_line line ≡ true) (in
       let w = cut_longer (seg_len line) (longest_route line t s) (authority_end (seg_len line) (journey line t s) a) (longest_end line t s) is.within in
       omega (arith, n, l, m, w)
 
-  module _ (entered_ : entered t s ≡ true) (a : Authority) (is : AuthorityIs line t s a) (ahead : head t s ≤ authority_end (seg_len line) (journey line t s) a) where
+  module _ (on : entered t s ≡ true) (a : Authority) (is : AuthorityIs line t s a) (ahead : head t s ≤ authority_end (seg_len line) (journey line t s) a) where
     abbrev steps : List DirSeg
     steps = journey line t s
 
@@ -95,14 +108,14 @@ module _ (line : Line) (t : ℕ) (s : Story) (valid : is_line line ≡ true) (in
     begins : step_begin line t s a.mark < head t s
     begins =
         let b = is.behind in
-        let p = place_on line t s valid invariant c entered_ in
-        let some = invariant.authorized.long_some is.declared in
+        let p = place_on on in
+        let some = k.long_some is.declared in
         omega (arith, b, p, some)
 
     mark_before : a.mark < j
     mark_before =
         let b = begins in
-        let h = head_on_track line t s valid invariant c in
+        let h = controlled_reaches line t s k c motion in
         by_test (nat_le j a.mark)
         (λ y.
         let all : before ≡ steps = take_all a.mark steps (grind (arith, nat_tests)) in
@@ -140,7 +153,7 @@ module _ (line : Line) (t : ℕ) (s : Story) (valid : is_line line ≡ true) (in
         ap (λ (k : ℕ). total len (take k (route steps a))) (sym sum) ∙ ap (total len) (take-add a.mark i (route steps a)) ∙ total_append len (take a.mark (route steps a)) (take i (drop a.mark (route steps a)))
         ∙ ap (λ xs. total len xs + total len (take i (drop a.mark (route steps a)))) front ∙ ap (λ xs. total len before + total len (take i xs)) rest in
         let same : total len (take (j - 1) (route steps a)) ≡ total len (take (j - 1) steps) = ap (λ xs. total len (take (j - 1) xs)) f.1 ∙ ap (total len) (take-append-le (j - 1) steps f.0 (omega arith)) in
-        let h = head_place line t s valid invariant c in
+        let h = head_place in
         record {
           mark = omega (arith, less);
           step = on_behind j a.mark before a.path.steps.items m less most ∙ last_;

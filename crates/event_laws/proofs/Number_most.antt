@@ -41,7 +41,7 @@ granted_most t s q number mark path most = by_test (nat_eq (train_of q).0 t)
 effect_most : (t : ℕ) (line : Line) (s : Story) (e : Event) → AllIn (λ m. auth_number t m ≤ last_issued t s + 1) (effects line s e).issued
 effect_most t line s e = by_does line s e (λ x. AllIn (λ m. auth_number t m ≤ last_issued t s + 1) x.issued)
     (λ a x i. none_most t (last_issued t s + 1) x.issued (told_none t s e x.issued i))
-    (λ from m k. none_most t (last_issued t s + 1) (world_takes s from m).issued (world_none t s from m))
+    (λ from m k. none_most t (last_issued t s + 1) (world_takes line s from m).issued (world_none t line s from m))
     (λ z from m k. zone_each (λ m. auth_number t m ≤ last_issued t s + 1) line (suc z) from s m (granted_most t s m))
 
 pub number_most : (t : ℕ) (line : Line) (es : List Event) → last_issued t (story_of line es) ≤ length es

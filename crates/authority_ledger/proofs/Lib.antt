@@ -1,0 +1,4 @@
+pub mod Greatest
+mod Kept
+mod Told
+mod Worked

@@ -1,0 +1,3 @@
+pub mod Ledger
+pub mod Numbers
+pub mod Keeps
