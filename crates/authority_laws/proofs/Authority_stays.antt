@@ -1,30 +1,18 @@
 -- An authority stays one as the journey goes on, and the route that it lies on.
-use Rattle.std.proofs.Common.{◌≡◌, ℕ, ◌+◌, ◌<◌, ◌≤◌, ◌∷◌, length, true, false, sym, ◌∙◌, ap, arith}
-use Rattle.std.specs.List.{list_all}
+use Rattle.std.proofs.Common.{◌≡◌, ℕ, ◌≤◌, ◌∷◌, true, false, sym, ◌∙◌, ap, arith}
 use Rattle.list_laws.proofs.By_test.{by_test}
 use Rattle.track_points.specs.Points.{steps_to}
 use Rattle.definitions.specs.Track.{Line, seg_len}
-use Rattle.definitions.specs.Premises.{on_line}
 use Rattle.definitions.specs.Story.{Transition, Story}
-use Rattle.definitions.specs.World.{is_declared, long_of, entered, journey, Authority, authority_end}
+use Rattle.definitions.specs.World.{is_declared, entered, head, journey, Authority, authority_end}
+use Rattle.definitions.specs.Control.{controls}
+use Rattle.definitions.specs.Zones.{zone_id}
 use Rattle.definitions.specs.Longest.{longest_end, longest_route}
-use Rattle.motion_laws.proofs.Motion.{place}
+use Rattle.motion_laws.proofs.Motion.{place, Motion}
 use Rattle.event_laws.proofs.Facts_stay.{declared_stays, long_stays, first_stays, entered_stays}
 use Rattle.way_laws.proofs.Cut_cut.{cut_cut}
-use Rattle.invariant_laws.proofs.Invariant.{step_begin, path_fits, AuthorityIs, FirstIs}
+use Rattle.invariant_laws.proofs.Invariant.{IsPath, is_path, AuthorityIs, FirstIs}
 use Rattle.invariant_laws.proofs.First_steps.{FirstSteps, journey_longer, begin_same, end_same, route_same}
-
--- an authority, but for the route that it lies on
-pub record IsPath (line : Line) (t : ℕ) (s : Story) (a : Authority) : Type 0 where
-  pub declared : is_declared t s ≡ true
-  pub fits : path_fits line a.path ≡ true
-  pub above : 0 < a.path.to
-  pub own : list_all (on_line line) a.path.steps.items ≡ true
-  pub behind : step_begin line t s a.mark + a.path.from + long_of t s ≤ place t s
-  pub mark : a.mark ≤ length (journey line t s)
-
-pub is_path : (line : Line) (t : ℕ) (s : Story) (a : Authority) → AuthorityIs line t s a → IsPath line t s a
-is_path line t s a k = record { declared = k.declared; fits = k.fits; above = k.above; own = k.own; behind = k.behind; mark = k.mark }
 
 -- a train that has not come on had not before
 pub off_before : (t : ℕ) (x : Transition) (s : Story) → entered t (x ∷ s) ≡ false → entered t s ≡ false
@@ -83,3 +71,10 @@ first_is_stays line t x s a d k =
       path = k.path;
       room = omega (arith, l, room);
     }
+
+-- how the train moves at a transition: its head never goes back, nor beyond the longest end
+pub record Going (line : Line) (t : ℕ) (s : Story) (x : Transition) : Type 0 where
+  pub motion : Motion t s
+  pub moved : is_declared t s ≡ true → place t s ≤ place t (x ∷ s)
+  pub heads : head t s ≤ head t (x ∷ s)
+  pub stops : controls (zone_id line) t s ≡ true → head t (x ∷ s) ≤ longest_end line t s

@@ -12,7 +12,7 @@ use Rattle.definitions.specs.Rules.{is_line}
 use Rattle.definitions.specs.Premises.{on_line}
 use Rattle.definitions.specs.Steps.{entry_path}
 use Rattle.definitions.specs.Story.{Transition, Story}
-use Rattle.definitions.specs.World.{Facts, facts_or, long_of, entered, goes_on, journey, Authority, authority_end}
+use Rattle.definitions.specs.World.{Facts, facts_or, long_of, entered, goes_on, journey, Authority}
 use Rattle.definitions.specs.Control.{grants_entry, controls, asked_facts, known_train, known_facts}
 use Rattle.definitions.specs.Farther.{end_or_0}
 use Rattle.definitions.specs.Fold.{account}
@@ -21,12 +21,12 @@ use Rattle.definitions.specs.Zones.{zone_id}
 use Rattle.motion_laws.proofs.Motion.{Motion}
 use Rattle.event_laws.proofs.Controls_same.{controls_now}
 use Rattle.way_laws.proofs.Line_builds.{portal_on_line, long_on_line}
-use Rattle.invariant_laws.proofs.Invariant.{path_fits, FirstIs, EntryIs, Authorized}
-use Rattle.invariant_laws.proofs.One_route.{first_end, uncontrolled_off}
+use Rattle.invariant_laws.proofs.Invariant.{path_fits, IsPath, FirstIs, EntryIs, Authorized}
+use Rattle.invariant_laws.proofs.One_route.{uncontrolled_off}
 use Rattle.invariant_laws.proofs.First_steps.{off_journey}
-use Rattle.authority_laws.proofs.Authority_stays.{IsPath}
+use Rattle.front_laws.proofs.Taken_counts.{answers}
 use Rattle.authority_laws.proofs.Farthest_none.{farthest_none}
-use Rattle.authority_laws.proofs.New_auth.{NewAuth}
+use Rattle.authority_laws.proofs.New_auth.{LongerAuth}
 
 entry_fits : (line : Line) (step : DirSeg) → 1 ≤ seg_len line step.seg.0 → path_fits line (entry_path step (seg_len line step.seg.0)) ≡ true
 unfolding joined visits no_segment_twice last_step place_of_last
@@ -61,10 +61,6 @@ module _ (line : Line) (t : ℕ) (s : Story) (valid : is_line line ≡ true) (m 
   entry_journey : journey line t s ≡ step ∷ []
   entry_journey = off_journey line t s step m asked.first off
 
-  entry_end : authority_end (seg_len line) (journey line t s) a ≡ seg_len line step.seg.0
-  unfolding entry_first
-  entry_end = first_end line t s (journey line t s) a entry_first
-
   entry_path_is : IsPath line t s a
   unfolding total
   entry_path_is = record {
@@ -82,33 +78,33 @@ module _ (line : Line) (t : ℕ) (s : Story) (valid : is_line line ≡ true) (m 
       ap (λ (b : Option Authority). end_or_0 (seg_len line) (journey line t s) b) (farthest_none (seg_len line) (journey line t s) v.reads v.counted (v.issued + 1 - v.counted) (k.unread free))
 
   pub entry_new : (x : Transition) (u : TrainId) (from time : ℕ) (equipped : Bool) → x.actor ≡ zone_id line → x.took ≡ Some (from, msg.EntryAsk u time long error speed equipped step) → nat_eq u.0 t ≡ true → goes_on t x.event ≡ false
-      → x.issued ≡ (0, msg.Auth u 1 0 (entry_path step (seg_len line step.seg.0))) ∷ [] → NewAuth line t s x
+      → x.issued ≡ (0, msg.Auth u 1 0 (entry_path step (seg_len line step.seg.0))) ∷ [] → LongerAuth line t s x
   unfolding known_train joined total steps_to
   entry_new x u from time equipped actor took its still issued =
       let last = k.unknown free in
       let longest_none_ = none_longest in
-      let end = entry_end in
       let zone : nat_eq (zone_id line) (zone_id line) ≡ true = grind (arith, nat_tests) in
       let grants : grants_entry (zone_id line) t x ≡ true = rw (actor, took, issued, zone, its) refl in
       let z = m.unborn off in
       let first : nat_le 0 (seg_len line step.seg.0) ≡ true = grind (arith, nat_tests) in
       record {
-        train = u;
-        number = 1;
-        authority = a;
-        issued = issued;
-        its = its;
-        still = still;
-        is = entry_path_is;
+        sent = record {
+          train = u;
+          number = 1;
+          authority = a;
+          issued = issued;
+          its = its;
+          still = still;
+          unanswered = ap (answers t) took;
+          is = entry_path_is;
+        };
+        next = omega (arith, last);
+        idle = k.unshrunk free;
         longer = omega (arith, longest_none_);
-        again = λ h. absurd (omega (arith, h, last));
         onward = λ y. absurd (let e : true ≡ false = sym y ∙ free in cc);
         chain = refl;
         of_line = let o = on in rw o refl;
         journey_on = entry_journey ∙ rw z (rw first refl);
-        positive = omega arith;
-        no_less = omega (arith, last);
-        no_more = omega arith;
         cut = λ y. absurd (let e : true ≡ false = sym y ∙ free in cc);
         begin = λ n. omega arith;
         early = λ off. (refl, entry_first);
@@ -118,7 +114,6 @@ module _ (line : Line) (t : ℕ) (s : Story) (valid : is_line line ≡ true) (m 
         step = step;
         first = asked.first;
         portal = asked.portal;
-        within = omega (arith, end);
         room = room;
       }
     where

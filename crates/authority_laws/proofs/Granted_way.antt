@@ -16,7 +16,7 @@ use Rattle.definitions.specs.Rules.{is_line}
 use Rattle.definitions.specs.Premises.{on_line}
 use Rattle.definitions.specs.Steps.{path_to}
 use Rattle.definitions.specs.Story.{Transition, Story}
-use Rattle.definitions.specs.World.{entered, goes_on, journey}
+use Rattle.definitions.specs.World.{entered, head, goes_on, journey, Authority, route, authority_end}
 use Rattle.definitions.specs.Control.{grants_entry, controls, last_issued}
 use Rattle.definitions.specs.Longest.{longest_end, longest_route}
 use Rattle.definitions.specs.Fronts.{least_rear}
@@ -24,30 +24,41 @@ use Rattle.definitions.specs.Limit.{further, asked_way, continues, Bars, ask_of,
 use Rattle.definitions.specs.Ways.{PlainWay, steps_behind, way_between, chained, first_len}
 use Rattle.definitions.specs.Safe.{IsLineOfOneZone}
 use Rattle.definitions.specs.Zones.{zone_id}
+use Rattle.definitions.specs.Fold.{account}
+use Rattle.event_laws.proofs.Controls_same.{controls_stays, known_same}
+use Rattle.front_laws.proofs.Taken_counts.{answers}
 use Rattle.motion_laws.proofs.Motion.{Motion}
-use Rattle.way_laws.proofs.Cut_front.{cut_front, cut_length, cut_some, cut_end, total_append, total_front, offset_within}
-use Rattle.way_laws.proofs.Cut_cut.{cut_more}
+use Rattle.way_laws.proofs.Cut_front.{cut_all, cut_front, cut_length, cut_some, cut_end, total_append, total_front, offset_within}
+use Rattle.way_laws.proofs.Cut_cut.{cut_more, cut_cut}
 use Rattle.way_laws.proofs.Chained_front.{once_front, chained_front, chained_more, first_stays}
 use Rattle.way_laws.proofs.Reach_granted.{reach_granted, reach_few}
 use Rattle.way_laws.proofs.Track_front.{joined_on_line}
 use Rattle.way_laws.proofs.Between_points.{behind_append, between_mark, between_end}
 use Rattle.way_laws.proofs.Between_longer.{between_append, between_longer}
-use Rattle.invariant_laws.proofs.Invariant.{path_fits, FrontsAre, Authorized}
-use Rattle.invariant_laws.proofs.One_route.{PathParts, kept_some, kept_cut}
+use Rattle.invariant_laws.proofs.Invariant.{step_begin, path_fits, IsPath, FrontsAre, Authorized}
+use Rattle.invariant_laws.proofs.One_route.{PathParts, kept_some, kept_cut, one_route}
 use Rattle.front_laws.proofs.Way_begins.{way_behind, way_begins}
-use Rattle.authority_laws.proofs.New_auth.{NewAuth}
+use Rattle.authority_laws.proofs.New_auth.{LongerAuth}
 use Rattle.authority_laws.proofs.Way_is.{WayIs, way_facts}
 use Rattle.authority_laws.proofs.Way_route.{way_begin, way_end, way_route, way_path}
-use Rattle.authority_laws.proofs.Renewed_way.{renewed}
 
 -- A path that is lengthened fits.
 
-pub granted_ready : (line : Line) (ready silent : Bool) (path : Path) (asked : List DirSeg) (to : ℕ) (bars : Bars) → nat_eq (reach_from line ready silent (Some path) asked to bars).distance 0 ≡ false
-    → (ready ≡ true) × ((continues line path.steps.items asked ≡ true) × (silent ≡ false))
-granted_ready line ready silent path asked to bars some = by_test (ready && continues line path.steps.items asked)
-    (λ y. by_test silent
-    (λ s. absurd (let z : true ≡ false = rw (y, s) at some in cc))
-    (λ s. let b = and_parts ready (continues line path.steps.items asked) y in (b.0, (b.1, s))))
+-- what an ask that reaches farther meets none of the bars
+pub record Unbarred (line : Line) (ready pending silent : Bool) (steps asked : List DirSeg) : Type 0 where
+  pub on : ready ≡ true
+  pub joins : continues line steps asked ≡ true
+  pub idle : pending ≡ false
+  pub loud : silent ≡ false
+
+pub granted_ready : (line : Line) (ready pending silent : Bool) (path : Path) (asked : List DirSeg) (to : ℕ) (bars : Bars) → nat_eq (reach_from line ready pending silent (Some path) asked to bars).distance 0 ≡ false
+    → Unbarred line ready pending silent path.steps.items asked
+granted_ready line ready pending silent path asked to bars some = by_test (ready && continues line path.steps.items asked)
+    (λ y. by_test pending
+    (λ p. absurd (let z : true ≡ false = rw (y, p) at some in cc))
+    (λ p. by_test silent
+    (λ s. absurd (let z : true ≡ false = rw (y, p, s) at some in cc))
+    (λ s. let b = and_parts ready (continues line path.steps.items asked) y in record { on = b.0; joins = b.1; idle = p; loud = s })))
     (λ n. absurd (let z : true ≡ false = rw n at some in cc))
 
 grown_fits : (line : Line) (path : Path) (asked : List DirSeg) (p : ℕ) → PathParts line path → continues line path.steps.items asked ≡ true → end_place (seg_len line) path ≤ p
@@ -80,23 +91,24 @@ grown_fits line path asked p old continued above room near =
     let few : nat_le (length cut) 24 ≡ true = grind (arith, nat_tests) in
     rw (chain, once, some_cut, from, to, order, few) refl
 
-pub grant_fits : (line : Line) (ready silent : Bool) (path : Path) (asked : List DirSeg) (to : ℕ) (bars : Bars) → PathParts line path → nat_eq (reach_from line ready silent (Some path) asked to bars).distance 0 ≡ false
-    → path_fits line (path_to (seg_len line) path.from (asked_way path.steps.items asked) (end_place (seg_len line) path + (reach_from line ready silent (Some path) asked to bars).distance)) ≡ true
-grant_fits line ready silent path asked to bars old some =
+pub grant_fits : (line : Line) (ready pending silent : Bool) (path : Path) (asked : List DirSeg) (to : ℕ) (bars : Bars) → PathParts line path → nat_eq (reach_from line ready pending silent (Some path) asked to bars).distance 0 ≡ false
+    → path_fits line (path_to (seg_len line) path.from (asked_way path.steps.items asked) (end_place (seg_len line) path + (reach_from line ready pending silent (Some path) asked to bars).distance)) ≡ true
+grant_fits line ready pending silent path asked to bars old some =
     let len = seg_len line in
     let own = path.steps.items in
     let steps = asked_way own asked in
     let within = old.within in
     let some_old = old.some in
-    let go = granted_ready line ready silent path asked to bars some in
-    let go_on : (ready && continues line own asked) ≡ true = let a = go.0 in let b = go.1.0 in rw (a, b) refl in
-    let loud = go.1.1 in
-    let reach : (reach_from line ready silent (Some path) asked to bars).distance ≡ (reach_on (layout line) (ask_of len path asked to bars)).distance = rw (go_on, loud) refl in
+    let go = granted_ready line ready pending silent path asked to bars some in
+    let go_on : (ready && continues line own asked) ≡ true = let a = go.on in let b = go.joins in rw (a, b) refl in
+    let idle = go.idle in
+    let loud = go.loud in
+    let reach : (reach_from line ready pending silent (Some path) asked to bars).distance ≡ (reach_on (layout line) (ask_of len path asked to bars)).distance = rw (go_on, idle, loud) refl in
     let front = total_front len own (further own asked) 24 old.few in
     let some_steps : 0 < length steps = omega (arith, length-append own (further own asked), some_old) in
     let near = reach_few (layout line) (ask_of len path asked to bars) some_steps (omega (arith, within, front)) in
-    let room = reach_granted line ready silent path asked to bars old.some within in
-    grown_fits line path asked (end_place len path + (reach_from line ready silent (Some path) asked to bars).distance) old go.1.0 (omega arith) room (omega (arith, near, reach))
+    let room = reach_granted line ready pending silent path asked to bars old.some within in
+    grown_fits line path asked (end_place len path + (reach_from line ready pending silent (Some path) asked to bars).distance) old go.joins (omega arith) room (omega (arith, near, reach))
 
 -- Steps that continue others.
 
@@ -192,24 +204,79 @@ module _ (line : Line) (t : ℕ) (s : Story) (one : IsLineOfOneZone line) (m : M
       ∙ sym (take-append-le old.mark kept (further own asked) (let l = mark_within in omega (arith, l)))
       ∙ ap (λ (i : ℕ). take i all) (sym n)
 
-  pub granted_way : (x : Transition) (train : TrainId) (d : ℕ) → 0 < d → end_place (seg_len line) old.path + d ≤ total (seg_len line) (asked_way own asked)
-      → path_fits line (path_to (seg_len line) old.path.from (asked_way own asked) (end_place (seg_len line) old.path + d)) ≡ true
-      → x.issued ≡ (0, msg.Auth train (last_issued t s + 1) old.mark (path_to (seg_len line) old.path.from (asked_way own asked) (end_place (seg_len line) old.path + d))) ∷ []
-      → nat_eq train.0 t ≡ true → goes_on t x.event ≡ false → grants_entry (zone_id line) t x ≡ false → entered t s ≡ true → NewAuth line t s x
-  granted_way x train d far room fits issued its still ungranted on =
-      let new = way_between len all rear (end + d) in
-      let g = k.controlled c in
-      let is = longer_way d in
-      let order = w.order in
-      let less : rear < end + d = omega (arith, order) in
-      let reach = room_for d room in
-      let begins = all_begins in
-      let e = way_end line all rear (end + d) less reach t s begins in
-      let i = way_begin line all rear (end + d) less reach t s begins in
-      let own_all = chained_on_line line kept (further own asked) one.valid (kept_some line t s k c) g.of_line all_chain in
-      renewed line t s one m k c f x train (last_issued t s + 1) (end + d) all (record { mark = new.mark; path = new.path })
-      (issued ∙ ap (λ (v : PlainWay). (0, msg.Auth train (last_issued t s + 1) v.mark v.path) ∷ []) (sym is))
-      its still (way_path line all rear (end + d) less reach t s begins g.declared (ap (λ (v : PlainWay). path_fits line v.path) is ∙ fits) own_all (way_behind line t s m k c f))
-      e (way_route line all rear (end + d) less reach t s begins)
-      (cut_more len kept (further own asked) end (kept_some line t s k c) w.within ∙ sym (kept_cut line t s k c)) all_chain own_all
-      (omega arith) (λ h. absurd (omega (arith, h))) (omega arith) (omega arith) (omega (arith, i)) (λ off. absurd (let z : true ≡ false = sym on ∙ off in cc)) ungranted
+  -- the way to a place that far beyond its end, as an authority
+  module _ (d : ℕ) (room : end_place (seg_len line) old.path + d ≤ total (seg_len line) (asked_way own asked)) where
+    abbrev new : Authority
+    new = record { mark = (way_between len all rear (end + d)).mark; path = (way_between len all rear (end + d)).path }
+
+    new_order : least_rear line (zone_id line) t s < longest_end line t s + d
+    new_order = let order = w.order in omega (arith, order)
+
+    new_end : authority_end (seg_len line) (journey line t s) new ≡ longest_end line t s + d
+    new_end = way_end line all rear (end + d) new_order (room_for d room) t s all_begins
+
+    new_begin : step_begin line t s new.mark + new.path.from ≡ least_rear line (zone_id line) t s
+    new_begin = way_begin line all rear (end + d) new_order (room_for d room) t s all_begins
+
+    new_route : route (journey line t s) new ≡ steps_to (seg_len line) (longest_route line t s ++ further own asked) (longest_end line t s + d)
+    new_route = way_route line all rear (end + d) new_order (room_for d room) t s all_begins
+
+    all_on_line : list_all (on_line line) (longest_route line t s ++ further own asked) ≡ true
+    all_on_line = chained_on_line line kept (further own asked) one.valid (kept_some line t s k c) (k.controlled c).of_line all_chain
+
+    new_path : path_fits line (path_to (seg_len line) old.path.from (asked_way own asked) (end_place (seg_len line) old.path + d)) ≡ true → IsPath line t s new
+    new_path fits =
+        way_path line all rear (end + d) new_order (room_for d room) t s all_begins (k.controlled c).declared (ap (λ (v : PlainWay). path_fits line v.path) (longer_way d) ∙ fits) all_on_line (way_behind line t s m k c f)
+
+    -- its route goes on from the longest
+    new_goes : steps_to (seg_len line) (route (journey line t s) new) (longest_end line t s) ≡ longest_route line t s
+    new_goes =
+        ap (λ (xs : List DirSeg). steps_to len xs (longest_end line t s)) new_route ∙ cut_cut len all (longest_end line t s) (end + d) (omega arith)
+        ∙ cut_more len kept (further own asked) end (kept_some line t s k c) w.within ∙ sym (kept_cut line t s k c)
+
+    new_chain : chained line (route (journey line t s) new) ≡ true
+    new_chain =
+        let front = cut_front len all (end + d) in
+        ap (chained line) new_route ∙ chained_front line (steps_to len all (end + d)) front.0 (ap (chained line) (sym front.1) ∙ all_chain)
+
+    new_journey : journey line t s ≡ steps_to (seg_len line) (route (journey line t s) new) (head t s)
+    new_journey =
+        let head_in = (one_route line t s k c m).head_within in
+        (k.controlled c).journey_on ∙ ap (λ (xs : List DirSeg). steps_to len xs (head t s)) (sym new_goes) ∙ cut_cut len (route (journey line t s) new) (head t s) (longest_end line t s) head_in
+
+    pub granted_way : (x : Transition) (train : TrainId) → path_fits line (path_to (seg_len line) old.path.from (asked_way own asked) (end_place (seg_len line) old.path + d)) ≡ true
+        → x.issued ≡ (0, msg.Auth train (last_issued t s + 1) old.mark (path_to (seg_len line) old.path.from (asked_way own asked) (end_place (seg_len line) old.path + d))) ∷ []
+        → nat_eq train.0 t ≡ true → goes_on t x.event ≡ false → answers t x.took ≡ false → grants_entry (zone_id line) t x ≡ false → entered t s ≡ true → (account line t s).shrink ≡ 0 → LongerAuth line t s x
+    granted_way x train fits issued its still unanswered ungranted on idle =
+        let g = k.controlled c in
+        let e = new_end in
+        let i = new_begin in
+        record {
+          sent = record {
+            train = train;
+            number = last_issued t s + 1;
+            authority = new;
+            issued = issued ∙ ap (λ (v : PlainWay). (0, msg.Auth train (last_issued t s + 1) v.mark v.path) ∷ []) (sym (longer_way d));
+            its = its;
+            still = still;
+            unanswered = unanswered;
+            is = new_path fits;
+          };
+          next = refl;
+          idle = idle;
+          longer = omega (arith, e);
+          onward = λ y. new_goes;
+          chain = new_chain;
+          of_line = ap (list_all (on_line line)) new_route ∙ cut_all (on_line line) len all (end + d) all_on_line;
+          journey_on = new_journey;
+          cut = λ y. omega (arith, i);
+          begin = λ n. absurd (let z : true ≡ false = sym c ∙ n in cc);
+          early = λ off. absurd (let z : true ≡ false = sym on ∙ off in cc);
+          granted = λ y. ungranted;
+          controlled = controls_stays (zone_id line) t x s c;
+          facts = g.facts ∙ ap (λ z. Some z) (sym (known_same (zone_id line) t x s ungranted));
+          step = g.step;
+          first = g.first;
+          portal = g.portal;
+          room = g.room;
+        }

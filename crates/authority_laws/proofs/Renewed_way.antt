@@ -1,35 +1,35 @@
--- The way as it stands, as an authority; and what a further authority of a controlled train keeps.
-use Rattle.std.proofs.Common.{◌≡◌, ℕ, ◌+◌, ◌≤◌, ◌<◌, List, [], ◌∷◌, ◌++◌, length, take, drop, Some, true, false, refl, sym, ◌∙◌, ap, arith}
+-- The way of a controlled train, and the way up to a place of it, as an authority; and the last one that is sent again.
+use Rattle.std.proofs.Common.{◌≡◌, ℕ, ◌+◌, ◌-◌, ◌≤◌, ◌<◌, List, [], ◌∷◌, ◌++◌, length, take, drop, Some, Bool, true, false, refl, sym, ◌∙◌, ap, subst, arith, if◌then◌else◌}
 use Rattle.std.proofs.lemmas.Bool.Decides.{nat_tests}
 use Rattle.std.proofs.lemmas.List.{length-take, take-append-le, take_all}
 use Rattle.std.proofs.Math.Seq.{drop-append_seam}
+use Rattle.std.proofs.lemmas.Option.{same_Some}
 use Rattle.std.specs.Prelude.{nat_eq, nat_le, nat_lt}
-use Rattle.std.specs.List.{list_all}
+use Rattle.list_laws.proofs.By_test.{by_test}
 use Rattle.track_points.specs.declared.ids.DirSeg.{DirSeg}
 use Rattle.track_points.specs.declared.ids.TrainId.{TrainId}
 use Rattle.track_points.specs.Points.{Lengths, total, no_segment_twice, steps_to, offset_to}
 use Rattle.definitions.specs.declared.message.Msg.TheVariants as msg
 use Rattle.definitions.specs.Track.{Line, seg_len}
-use Rattle.definitions.specs.Premises.{on_line}
-use Rattle.definitions.specs.Steps.{entry_path}
+use Rattle.definitions.specs.Steps.{entry_path, sent_again}
 use Rattle.definitions.specs.Story.{Transition, Story}
-use Rattle.definitions.specs.World.{entered, head, goes_on, journey, Authority, route, authority_end}
+use Rattle.definitions.specs.World.{entered, goes_on, journey, Authority, route, authority_end}
 use Rattle.definitions.specs.Control.{grants_entry, controls, last_issued}
-use Rattle.definitions.specs.Longest.{longest_end, longest_route}
+use Rattle.definitions.specs.Longest.{longest_end, is_pending, shrink_place, longest_route}
+use Rattle.definitions.specs.Authority.{way}
 use Rattle.definitions.specs.Fronts.{least_rear}
 use Rattle.definitions.specs.Ways.{PlainWay, steps_behind, way_between, chained}
 use Rattle.definitions.specs.Safe.{IsLineOfOneZone}
 use Rattle.definitions.specs.Zones.{zone_id}
 use Rattle.motion_laws.proofs.Motion.{Motion}
-use Rattle.event_laws.proofs.Controls_same.{controls_stays, known_same}
-use Rattle.way_laws.proofs.Cut_front.{cut_all, cut_front}
-use Rattle.way_laws.proofs.Cut_cut.{cut_cut}
-use Rattle.way_laws.proofs.Chained_front.{chained_front}
-use Rattle.invariant_laws.proofs.Invariant.{step_begin, path_fits, FirstIs, FrontsAre, Authorized}
-use Rattle.invariant_laws.proofs.One_route.{path_parts, first_route, first_end, newest_end, newest_route, kept_cut, one_route}
+use Rattle.way_laws.proofs.Between_points.{begin_of, behind_from}
+use Rattle.way_laws.proofs.Between_longer.{between_nearer}
+use Rattle.invariant_laws.proofs.Invariant.{step_begin, end_read, path_fits, IsPath, FirstIs, FrontsAre, Authorized}
+use Rattle.invariant_laws.proofs.One_route.{path_parts, first_route, first_end, newest_end, newest_route, last_end, shrink_before}
 use Rattle.front_laws.proofs.Way_begins.{way_behind, way_begins}
-use Rattle.authority_laws.proofs.Authority_stays.{IsPath}
-use Rattle.authority_laws.proofs.New_auth.{NewAuth}
+use Rattle.front_laws.proofs.Fronts_numbers.{fronts_numbers}
+use Rattle.front_laws.proofs.Taken_counts.{answers}
+use Rattle.authority_laws.proofs.New_auth.{AgainAuth}
 use Rattle.authority_laws.proofs.Way_is.{WayIs, way_facts}
 use Rattle.authority_laws.proofs.Way_route.{fits_between, way_begin, way_end, way_route, way_path}
 
@@ -40,6 +40,13 @@ step_between len st h =
     let y : nat_lt 0 (len st.seg.0) ≡ true = grind (arith, nat_tests) in
     let w : nat_le (len st.seg.0) (len st.seg.0) ≡ true = grind (arith, nat_tests) in
     rw (y, w) refl
+
+-- an authority over the way up to a place of it
+pub record WayAuth (line : Line) (t : ℕ) (s : Story) (a : Authority) (end : ℕ) : Type 0 where
+  pub is : IsPath line t s a
+  pub on : route (journey line t s) a ≡ steps_to (seg_len line) (longest_route line t s) (authority_end (seg_len line) (journey line t s) a)
+  pub ends : authority_end (seg_len line) (journey line t s) a ≡ end
+  pub begin : step_begin line t s a.mark + a.path.from ≡ least_rear line (zone_id line) t s
 
 module _ (line : Line) (t : ℕ) (s : Story) (one : IsLineOfOneZone line) (m : Motion t s) (k : Authorized line t s) (c : controls (zone_id line) t s ≡ true) (f : FrontsAre line t s) where
   abbrev len : Lengths
@@ -75,24 +82,50 @@ module _ (line : Line) (t : ℕ) (s : Story) (one : IsLineOfOneZone line) (m : M
       ∙ ap (λ (n : ℕ). drop n (take newest.mark (journey line t s) ++ newest.path.steps.items)) (sym l)
       ∙ drop-append_seam (take newest.mark (journey line t s)) newest.path.steps.items
 
+  -- the journey has the steps before the way
+  pub begins : take (steps_behind (seg_len line) (longest_route line t s) (least_rear line (zone_id line) t s)) (journey line t s)
+      ≡ take (steps_behind (seg_len line) (longest_route line t s) (least_rear line (zone_id line) t s)) (longest_route line t s)
+  begins = way_begins line t s m k c f one.valid
+
+  -- the way up to a place of it
+  module _ (end : ℕ) (order : least_rear line (zone_id line) t s < end) (within : end ≤ longest_end line t s) where
+    room : end ≤ total (seg_len line) (longest_route line t s)
+    room = let r = w.within in omega (arith, within, r)
+
+    pub fits_to : path_fits line (way_between (seg_len line) (longest_route line t s) (least_rear line (zone_id line) t s) end).path ≡ true
+    fits_to =
+        let p = path_parts line newest.path (k.controlled c).newest_is.fits in
+        let cut = (k.controlled c).cut in
+        let total_is = ap (total len) begins_there in
+        let mark = (k.controlled c).newest_is.mark in
+        let l = length-take newest.mark steps in
+        let j = length-take newest.mark (journey line t s) in
+        let n = ap (λ (xs : List DirSeg). length xs) begins_there in
+        let few = p.few in
+        let d = ap (λ (xs : List DirSeg). length xs) own_steps in
+        fits_between line steps (least_rear line (zone_id line) t s) end order room newest.mark (omega (arith, cut, total_is)) (omega (arith, l, j, n, mark))
+        (ap (chained line) own_steps ∙ p.chain) (ap no_segment_twice own_steps ∙ p.once) (omega (arith, d, few))
+
+    -- as the path of an authority
+    pub way_to_is : WayAuth line t s (record { mark = (way_between (seg_len line) (longest_route line t s) (least_rear line (zone_id line) t s) end).mark; path = (way_between (seg_len line) (longest_route line t s) (least_rear line (zone_id line) t s) end).path }) end
+    way_to_is =
+        let rear = least_rear line (zone_id line) t s in
+        let g = k.controlled c in
+        let e = way_end line steps rear end order room t s begins in
+        let i = way_begin line steps rear end order room t s begins in
+        record {
+          is = way_path line steps rear end order room t s begins g.declared fits_to g.of_line (way_behind line t s m k c f);
+          on = way_route line steps rear end order room t s begins ∙ ap (steps_to len steps) (sym e);
+          ends = e;
+          begin = i;
+        }
+
   pub way_fits : path_fits line (way_between (seg_len line) (longest_route line t s) (least_rear line (zone_id line) t s) (longest_end line t s)).path ≡ true
-  way_fits =
-      let p = path_parts line newest.path (k.controlled c).newest_is.fits in
-      let cut = (k.controlled c).cut in
-      let total_is = ap (total len) begins_there in
-      let mark = (k.controlled c).newest_is.mark in
-      let l = length-take newest.mark steps in
-      let j = length-take newest.mark (journey line t s) in
-      let n = ap (λ (xs : List DirSeg). length xs) begins_there in
-      let few = p.few in
-      let d = ap (λ (xs : List DirSeg). length xs) own_steps in
-      fits_between line steps (least_rear line (zone_id line) t s) (longest_end line t s) w.order w.within newest.mark (omega (arith, cut, total_is)) (omega (arith, l, j, n, mark))
-      (ap (chained line) own_steps ∙ p.chain) (ap no_segment_twice own_steps ∙ p.once) (omega (arith, d, few))
+  way_fits = fits_to (longest_end line t s) w.order (omega arith)
 
   pub way_early : entered t s ≡ false → FirstIs line t s (record { mark = the_way.mark; path = the_way.path })
   way_early off =
-      let e = (k.controlled c).early off in
-      let g = e.1 in
+      let g = ((k.controlled c).early off).1 in
       let route_is = newest_route line t s k c ∙ first_route line t s (journey line t s) newest g in
       let end = newest_end line t s k c ∙ first_end line t s (journey line t s) newest g in
       let lo = f.early off in
@@ -113,62 +146,78 @@ module _ (line : Line) (t : ℕ) (s : Story) (one : IsLineOfOneZone line) (m : M
         room = g.room;
       }
 
-  -- a further authority of the train, over a way on a route that goes on from the longest
-  pub renewed : (x : Transition) (train : TrainId) (number end : ℕ) (all : List DirSeg) (a : Authority) → x.issued ≡ (0, msg.Auth train number a.mark a.path) ∷ [] → nat_eq train.0 t ≡ true → goes_on t x.event ≡ false
-      → IsPath line t s a → authority_end (seg_len line) (journey line t s) a ≡ end → route (journey line t s) a ≡ steps_to (seg_len line) all end
-      → steps_to (seg_len line) all (longest_end line t s) ≡ longest_route line t s → chained line all ≡ true → list_all (on_line line) all ≡ true
-      → longest_end line t s ≤ end → (number ≤ last_issued t s → end ≡ longest_end line t s) → last_issued t s ≤ number → number ≤ last_issued t s + 1
-      → step_begin line t s a.mark + a.path.from ≤ least_rear line (zone_id line) t s → (entered t s ≡ false → (number ≡ 1) × FirstIs line t s a) → grants_entry (zone_id line) t x ≡ false
-      → NewAuth line t s x
-  renewed x train number end all a issued its still is ends routed onward chain own longer again no_less no_more cut early ungranted =
-      let g = k.controlled c in
-      let within = g.portal_within in
-      let some = g.issued in
-      let head_in = (one_route line t s k c m).head_within in
-      let front = cut_front len all end in
-      let goes : steps_to len (route (journey line t s) a) (longest_end line t s) ≡ longest_route line t s =
-      ap (λ (xs : List DirSeg). steps_to len xs (longest_end line t s)) routed ∙ cut_cut len all (longest_end line t s) end longer ∙ onward in
-      record {
-        train = train;
-        number = number;
-        authority = a;
-        issued = issued;
-        its = its;
-        still = still;
-        is = is;
-        longer = omega (arith, longer, ends);
-        again = λ h. ends ∙ again h;
-        onward = λ y. goes;
-        chain = ap (chained line) routed ∙ chained_front line (steps_to len all end) front.0 (ap (chained line) (sym front.1) ∙ chain);
-        of_line = ap (list_all (on_line line)) routed ∙ cut_all (on_line line) len all end own;
-        journey_on = g.journey_on ∙ ap (λ (xs : List DirSeg). steps_to len xs (head t s)) (sym goes) ∙ cut_cut len (route (journey line t s) a) (head t s) (longest_end line t s) head_in;
-        positive = omega (arith, some, no_less);
-        no_less = no_less;
-        no_more = no_more;
-        cut = λ y. cut;
-        begin = λ n. absurd (let z : true ≡ false = sym c ∙ n in cc);
-        early = early;
-        granted = λ y. ungranted;
-        controlled = controls_stays (zone_id line) t x s c;
-        facts = g.facts ∙ ap (λ z. Some z) (sym (known_same (zone_id line) t x s ungranted));
-        step = g.step;
-        first = g.first;
-        portal = g.portal;
-        within = omega (arith, within, longer, ends);
-        room = g.room;
-      }
+  -- where what is sent again ends: with the way, or with the shrink that is unanswered
+  abbrev sent_end : ℕ
+  sent_end = if is_pending line t s then shrink_place line t s else longest_end line t s
 
-  -- the way goes out again under the last number
-  pub renewed_way : (x : Transition) (train : TrainId) → x.issued ≡ (0, msg.Auth train (last_issued t s) the_way.mark the_way.path) ∷ [] → nat_eq train.0 t ≡ true → goes_on t x.event ≡ false → grants_entry (zone_id line) t x ≡ false
-      → NewAuth line t s x
-  renewed_way x train issued its still ungranted =
-      let g = k.controlled c in
+  rear_shrink : is_pending line t s ≡ true → least_rear line (zone_id line) t s < shrink_place line t s
+  rear_shrink y =
+      let unpassed = ((k.controlled c).shrink y).unpassed in
+      let least = (fronts_numbers line t s f).least in
+      let rear = w.rear in
+      let long = f.long in
+      let some = k.long_some (k.controlled c).declared in
+      omega (arith, unpassed, least, rear, long, some)
+
+  sent_after : least_rear line (zone_id line) t s < sent_end
+  sent_after = by_test (is_pending line t s) (λ y. rw y (rear_shrink y)) (λ n. rw n w.order)
+
+  sent_within : sent_end ≤ longest_end line t s
+  sent_within = by_test (is_pending line t s) (λ y. let before = shrink_before line t s k c y in rw y (omega (arith, before))) (λ n. rw n (omega arith))
+
+  -- it ends where what is read of the last number does
+  sent_read : sent_end ≡ end_read line t s (last_issued t s)
+  sent_read = by_test (is_pending line t s)
+      (λ y. rw y (ap (λ (n : ℕ). end_read line t s n) ((k.controlled c).shrink y).last))
+      (λ n. rw n (sym (last_end line t s k c n)))
+
+  -- what is sent again is the way up to there
+  sent_way : sent_again line t s (Some the_way) ≡ Some (way_between (seg_len line) (longest_route line t s) (least_rear line (zone_id line) t s) sent_end)
+  sent_way = by_test (is_pending line t s)
+      (λ y.
       let rear = least_rear line (zone_id line) t s in
-      let end = longest_end line t s in
-      let begins = way_begins line t s m k c f one.valid in
-      let e = way_end line steps rear end w.order w.within t s begins in
-      let i = way_begin line steps rear end w.order w.within t s begins in
-      renewed x train (last_issued t s) end steps (record { mark = the_way.mark; path = the_way.path }) issued its still
-      (way_path line steps rear end w.order w.within t s begins g.declared way_fits g.of_line (way_behind line t s m k c f))
-      e (way_route line steps rear end w.order w.within t s begins) (sym (kept_cut line t s k c)) g.chain g.of_line
-      (omega arith) (λ h. refl) (omega arith) (omega arith) (omega (arith, i)) (λ off. ((g.early off).0, way_early off)) ungranted
+      let begin = begin_of len steps rear in
+      let from = behind_from len steps rear in
+      let after = rear_shrink y in
+      let within = shrink_before line t s k c y in
+      let e : begin + (shrink_place line t s - begin) ≡ shrink_place line t s = omega (arith, from, after) in
+      rw y (ap (λ (v : PlainWay). Some v)
+      (between_nearer len steps rear (longest_end line t s) (shrink_place line t s - begin) (omega (arith, from, after)) (omega (arith, from, after, within))
+      ∙ ap (way_between len steps rear) e)))
+      (λ n. rw n refl)
+
+  -- the way, or the way up to the end of a shrink that is unanswered, goes out again under the last number
+  pub renewed_way : (x : Transition) (train : TrainId) (v : PlainWay) → sent_again line t s (way line (zone_id line) t s) ≡ Some v
+      → x.issued ≡ (0, msg.Auth train (last_issued t s) v.mark v.path) ∷ [] → nat_eq train.0 t ≡ true → goes_on t x.event ≡ false → answers t x.took ≡ false
+      → ((y : ℕ) → grants_entry y t x ≡ false) → AgainAuth line t s x
+  renewed_way x train v is issued its still unanswered refused =
+      let same : v ≡ way_between len steps (least_rear line (zone_id line) t s) sent_end = same_Some v _ (sym is ∙ (ap (sent_again line t s) w.is ∙ sent_way)) in
+      let a = subst (λ (y : PlainWay). WayAuth line t s (record { mark = y.mark; path = y.path }) sent_end) (sym same) (way_to_is sent_end sent_after sent_within) in
+      let within = sent_within in
+      let ends = a.ends in
+      record {
+        sent = record {
+          train = train;
+          number = last_issued t s;
+          authority = record { mark = v.mark; path = v.path };
+          issued = issued;
+          its = its;
+          still = still;
+          unanswered = unanswered;
+          is = a.is;
+        };
+        known = refl;
+        control = c;
+        refused = refused;
+        on = a.on;
+        within = omega (arith, within, ends);
+        ends = a.ends ∙ sent_read;
+        first = first_again v same;
+      }
+    where
+      first_again : (v : PlainWay) → v ≡ way_between len steps (least_rear line (zone_id line) t s) sent_end → entered t s ≡ false → last_issued t s ≡ 1 → FirstIs line t s (record { mark = v.mark; path = v.path })
+      first_again v same off one_ = by_test (is_pending line t s)
+          (λ y. let g = (k.controlled c).shrink y in let p = g.positive in let b = g.one_below in absurd (omega (arith, p, b, one_)))
+          (λ n.
+          let whole : v ≡ the_way = same ∙ ap (λ (b : Bool). way_between len steps (least_rear line (zone_id line) t s) (if b then shrink_place line t s else longest_end line t s)) n in
+          subst (λ (y : PlainWay). FirstIs line t s (record { mark = y.mark; path = y.path })) (sym whole) (way_early off))

@@ -18,8 +18,7 @@ use Rattle.motion_laws.proofs.Motion.{place}
 use Rattle.way_laws.proofs.Cut_front.{cut_all, offset_above, cut_front, total_append, offset_within}
 use Rattle.way_laws.proofs.Chained_front.{once_front, once_rest, chained_front, chained_rest}
 use Rattle.way_laws.proofs.Between_points.{begin_of, behind_rear, between_is, between_some, between_mark, between_from, between_first, between_end, between_steps}
-use Rattle.invariant_laws.proofs.Invariant.{step_begin, path_fits}
-use Rattle.authority_laws.proofs.Authority_stays.{IsPath}
+use Rattle.invariant_laws.proofs.Invariant.{step_begin, path_fits, IsPath}
 
 -- steps that lie wholly behind a place are counted
 behind_least : (len : Lengths) (steps : List DirSeg) (m p : ℕ) → total len (take m steps) ≤ p → m ≤ length steps → m ≤ steps_behind len steps p

@@ -295,10 +295,10 @@ pub record FieldRefused (line : Line) (trains : List ℕ) (text : List ℕ) (col
   pub refused : event_of line trains form values ≡ Err field
   pub here : column ≡ field_column field text
 
--- the forms that have a meaning, by their places: train, entry, enter, step, report, time, ask, order close, order open, take,
--- deliver, noise, round, lost
+-- the forms that have a meaning, by their places: train, entry, enter, step, report, time, ask, order close, order open, order
+-- short, take, deliver, noise, round, lost
 abbrev pub built_forms : List ℕ
-built_forms = 0 ∷ 1 ∷ 2 ∷ 3 ∷ 4 ∷ 7 ∷ 8 ∷ 9 ∷ 10 ∷ 16 ∷ 17 ∷ 20 ∷ 21 ∷ 22 ∷ []
+built_forms = 0 ∷ 1 ∷ 2 ∷ 3 ∷ 4 ∷ 7 ∷ 8 ∷ 9 ∷ 10 ∷ 13 ∷ 16 ∷ 17 ∷ 20 ∷ 21 ∷ 22 ∷ []
 
 -- a train of a kind that has no meaning yet
 abbrev pub declares_unequipped : ℕ → List ℕ → Bool

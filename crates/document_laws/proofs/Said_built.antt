@@ -18,7 +18,7 @@ use Rattle.definitions.specs.EventText.{event_forms}
 use Rattle.definitions.specs.EventReading.{event_or, line_or, told}
 use Rattle.definitions.specs.Grammar.{is_passed, event_line_of}
 use Rattle.definitions.specs.Premises.{on_line, known_train, ascending, built}
-use Rattle.definitions.specs.EventFields.{event_of, built_forms, is_unbuilt, has_train, names_segment, kind_of, offset_of, is_offset, declares_unequipped, names_train, names_zone, names_actor, train_id, step_of, asked_of, and_move, moves_of, train_of, entry_of, enter_of, and_ms, step_event_of, report_of, time_of, and_asks, ask_of, close_of, open_of, take_of, deliver_of, noise_of, round_of, lost_of}
+use Rattle.definitions.specs.EventFields.{event_of, built_forms, is_unbuilt, has_train, names_segment, kind_of, offset_of, is_offset, declares_unequipped, names_train, names_zone, names_actor, train_id, step_of, asked_of, and_move, moves_of, train_of, entry_of, enter_of, and_ms, step_event_of, report_of, time_of, and_asks, ask_of, close_of, open_of, shorten_of, take_of, deliver_of, noise_of, round_of, lost_of}
 use Rattle.document_laws.proofs.Asked_all.{tried_ok, segment_named, asked_all}
 use Rattle.document_laws.proofs.Offset_ranged.{offset_ranged}
 use Rattle.document_laws.proofs.Form_fits.{same_ok, KindFits, FormFits, form_fits}
@@ -158,6 +158,16 @@ module _ (line : Line) (s : Story) where
       subst (λ (x : Event). built line s x ≡ true) (same_ok x e _ refl a.1) (segment_named line n a.0)
   open_built _ e h = absurd cc
 
+  shorten_built : (vs : List ℕ) (e : Event) → shorten_of line (trains s) vs ≡ Ok e → built line s e ≡ true
+  shorten_built (z ∷ t ∷ n ∷ sign ∷ off ∷ []) e h =
+      let x = is.Shorten (record { 0 = z }) (train_id t) (step_of n sign) off in
+      let a = tried_ok (names_zone line z) 2 _ e h in
+      let b = tried_ok (names_train (trains s) t) 3 _ e a.1 in
+      let c = tried_ok (names_segment line n) 4 _ e b.1 in
+      let d = tried_ok (ranged 1 10000000 off) 5 (Ok x) e c.1 in
+      subst (λ (x : Event). built line s x ≡ true) (same_ok x e _ refl d.1) (and_from (has_zone line z) _ (zone_named line z a.0) (and_from (is_declared t s) _ (named t s b.0) (and_from (has_segment line n) _ (segment_named line n c.0) d.0)))
+  shorten_built _ e h = absurd cc
+
   take_built : (vs : List ℕ) (e : Event) → take_of line vs ≡ Ok e → built line s e ≡ true
   take_built (to ∷ from ∷ n ∷ []) e h =
       let x = is.Take to from n in
@@ -255,8 +265,11 @@ module _ (line : Line) (s : Story) where
                   (
                     λ vs e u f h. open_built line s vs e h,
                     (
-                      λ vs e u f h. take_built line s vs e h,
-                      (λ vs e u f h. deliver_built line s vs e h, (λ vs e u f h. noise_built line s vs e (f.noise refl) h, (λ vs e u f h. round_built line s vs e h, (λ vs e u f h. lost_built line s vs e h, tt)))),
+                      λ vs e u f h. shorten_built line s vs e h,
+                      (
+                        λ vs e u f h. take_built line s vs e h,
+                        (λ vs e u f h. deliver_built line s vs e h, (λ vs e u f h. noise_built line s vs e (f.noise refl) h, (λ vs e u f h. round_built line s vs e h, (λ vs e u f h. lost_built line s vs e h, tt)))),
+                      ),
                     ),
                   ),
                 ),

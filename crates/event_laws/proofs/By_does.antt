@@ -9,7 +9,7 @@ use Rattle.track_points.specs.declared.ids.DirSeg.{DirSeg}
 use Rattle.track_points.specs.declared.ids.TrainId.{TrainId}
 use Rattle.track_points.specs.declared.path.Path.{Path}
 use Rattle.definitions.specs.declared.event.Event.{Event}
-use Rattle.definitions.specs.declared.event.Event.TheVariants.{Entry, Enter, Ask, Report, Time, Close, Open, Take, Noise}
+use Rattle.definitions.specs.declared.event.Event.TheVariants.{Entry, Enter, Ask, Report, Time, Close, Open, Shorten, Take, Noise}
 use Rattle.definitions.specs.declared.message.Msg.{Msg}
 use Rattle.definitions.specs.declared.message.Msg.TheVariants as msg
 use Rattle.definitions.specs.declared.message.Order.TheVariants as orders
@@ -91,6 +91,7 @@ by_does line s (Report t z step offset whole) P own world zone = own 0 (telling 
 by_does line s (Time z t) P own world zone = own 0 (telling z.0 (msg.Time (clock s) t)) (says_one _ refl (record { time = refl; unauthorized = λ t. refl; reported = λ h. absurd cc }))
 by_does line s (Close seg) P own world zone = own 0 (telling (zone_of line seg.0) (msg.Order (clock s) (orders.Close seg))) (says_one _ refl (record { time = refl; unauthorized = λ t. refl; reported = λ h. absurd cc }))
 by_does line s (Open seg) P own world zone = own 0 (telling (zone_of line seg.0) (msg.Order (clock s) (orders.Open seg))) (says_one _ refl (record { time = refl; unauthorized = λ t. refl; reported = λ h. absurd cc }))
+by_does line s (Shorten z t st off) P own world zone = own 0 (telling z.0 (msg.Order (clock s) (orders.Short t st off))) (says_one _ refl (record { time = refl; unauthorized = λ t. refl; reported = λ h. absurd cc }))
 by_does line s (Noise to from bytes) P own world zone = own 0 (hearing_noise to (frame_at bytes.items)) (says_nothing (noise_issues to (frame_at bytes.items)))
 by_does line s _ P own world zone = own 0 nothing (says_nothing refl)
 

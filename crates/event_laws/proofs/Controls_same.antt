@@ -1,11 +1,14 @@
 -- Who controls a train, what is known of it, and Now, transition by transition. Nothing ends control yet, so that a zone controls the trains that it knows.
-use Rattle.std.proofs.Common.{◌≡◌, ℕ, [], ◌∷◌, max, Bool, true, false, ◌||◌, refl, sym, ◌∙◌, ap}
+use Rattle.std.proofs.Common.{◌≡◌, ℕ, [], ◌∷◌, max, Some, None, Bool, true, false, ◌||◌, refl, sym, ◌∙◌, ap}
 use Rattle.std.specs.Prelude.{nat_eq}
 use Rattle.std.proofs.lemmas.Bool.{or_right}
+use Rattle.list_laws.proofs.By_test.{by_test}
 use Rattle.definitions.specs.Track.{Line}
+use Rattle.definitions.specs.Ways.{PlainWay}
 use Rattle.definitions.specs.Story.{Transition, Story, ever}
 use Rattle.definitions.specs.Control.{grants_entry, controls, knows, asked_facts, known_train, known_facts, now_of, took_time}
 use Rattle.definitions.specs.Fronts.{report_time}
+use Rattle.definitions.specs.Authority.{way}
 
 pub controls_knows : (z t : ℕ) (s : Story) → controls z t s ≡ knows z t s
 unfolding controls ever
@@ -47,3 +50,9 @@ controls_before z t x s h c = sym (controls_same z t x s h) ∙ c
 pub report_idle : (line : Line) (z t : ℕ) (x : Transition) (s : Story) → grants_entry z t x ≡ false → nat_eq x.actor z ≡ false → report_time line z t (x ∷ s) ≡ report_time line z t s
 unfolding report_time
 report_idle line z t x s h n = rw (h, n) refl
+
+-- a way is that of a controlled train
+pub way_controls : (line : Line) (z t : ℕ) (s : Story) (w : PlainWay) → way line z t s ≡ Some w → controls z t s ≡ true
+way_controls line z t s w is = by_test (controls z t s)
+    (λ y. y)
+    (λ n. absurd (let c : None ≡ Some w = rw n at is in cc))

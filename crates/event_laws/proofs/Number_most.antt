@@ -7,6 +7,8 @@ use Rattle.track_points.specs.declared.path.Path.{Path}
 use Rattle.definitions.specs.declared.event.Event.{Event}
 use Rattle.definitions.specs.declared.message.Msg.{Msg}
 use Rattle.definitions.specs.declared.message.Msg.TheVariants as msg
+use Rattle.definitions.specs.declared.message.Order.{Order}
+use Rattle.definitions.specs.declared.message.Order.TheVariants.{Short}
 use Rattle.definitions.specs.Track.{Line}
 use Rattle.definitions.specs.Story.{Story, greatest_in, greatest_issued}
 use Rattle.definitions.specs.World.{is_auth, auth_number}
@@ -14,7 +16,7 @@ use Rattle.definitions.specs.Control.{last_issued}
 use Rattle.definitions.specs.Steps.{effects, story_of, world_takes}
 use Rattle.event_laws.proofs.Issued_all.{AllIn, in_all_weaker, NoAuth}
 use Rattle.event_laws.proofs.Last_quiet.{number_none}
-use Rattle.event_laws.proofs.Zone_issues.{train_of, asks, zone_each, world_none}
+use Rattle.event_laws.proofs.Zone_issues.{train_of, order_asks, asks, zone_each, world_none}
 use Rattle.event_laws.proofs.By_does.{by_does, told_none}
 
 in_most : (number : Msg → ℕ) (n : ℕ) (issued : List (ℕ × Msg)) → AllIn (λ m. number m ≤ n) issued → greatest_in number issued ≤ n
@@ -25,9 +27,14 @@ in_most number n (x ∷ issued) a = let h = a.0 in let i = in_most number n issu
 none_most : (t n : ℕ) (issued : List (ℕ × Msg)) → NoAuth t issued → AllIn (λ m. auth_number t m ≤ n) issued
 none_most t n issued a = in_all_weaker (λ m. is_auth t m ≡ false) (λ m. auth_number t m ≤ n) (λ m h. let z = number_none t m h in omega (arith, z)) issued a
 
+order_few : (order : Order) → order_asks order ≤ 1
+order_few (Short u st off) = omega arith
+order_few _ = omega arith
+
 asks_few : (q : Msg) → asks q ≤ 1
 asks_few (msg.EntryAsk u time long error speed equipped step) = omega arith
 asks_few (msg.Ask u time steps to) = omega arith
+asks_few (msg.Order time order) = order_few order
 asks_few _ = omega arith
 
 granted_most : (t : ℕ) (s : Story) (q : Msg) (number mark : ℕ) (path : Path) → number ≤ last_issued (train_of q).0 s + asks q → auth_number t (msg.Auth (train_of q) number mark path) ≤ last_issued t s + 1

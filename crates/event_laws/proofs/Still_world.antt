@@ -1,13 +1,13 @@
 -- What a transition leaves of the world's notions of a train that it does not speak of.
-use Rattle.std.proofs.Common.{◌≡◌, ℕ, ◌≤◌, max, List, ◌∷◌, ◌++◌, length, Option, Some, None, true, false, ◌||◌, refl, sym, ◌∙◌, ap, arith}
+use Rattle.std.proofs.Common.{◌≡◌, ℕ, ◌≤◌, max, List, [], ◌∷◌, ◌++◌, length, Option, Some, None, true, false, ◌||◌, refl, sym, ◌∙◌, ap, arith}
 use Rattle.std.proofs.lemmas.Bool.Decides.{nat_tests}
 use Rattle.std.specs.Prelude.{nat_eq, nat_lt, is_some}
 use Rattle.std.proofs.lemmas.Bool.{or_parts}
 use Rattle.list_laws.proofs.By_test.{none_of, by_test}
 use Rattle.definitions.specs.declared.message.Msg.{Msg}
 use Rattle.definitions.specs.Track.{Line}
-use Rattle.definitions.specs.Story.{Transition, Story, or_else, to_actor, sent, first_told, world_took}
-use Rattle.definitions.specs.World.{elapsed, clock, facts_in, facts_of, is_declared, with_train, trains, entry_in, first_entry, enters, entered, moved, head, goes_on, journey, taken_number, taken_path, taken_entry, entry_authority, is_new_to, accepts_some, last_number, limit_held, limit_place}
+use Rattle.definitions.specs.Story.{Transition, Story, or_else, to_actor, sent, ever, first_told, world_took}
+use Rattle.definitions.specs.World.{elapsed, clock, facts_in, facts_of, is_declared, with_train, trains, entry_in, first_entry, enters, entered, moved, head, goes_on, journey, taken_number, taken_path, taken_entry, entry_authority, is_new_to, accepts_some, last_number, last_taken, limit_held, limit_place}
 use Rattle.event_laws.proofs.Entered_same.{same_told, entered_same}
 
 -- an entry that neither declares, lets on nor moves a train, nor asks for its entry, nor takes an authority of it
@@ -96,6 +96,14 @@ last_still t x s off none =
     let zero_more : max (last_number t s) 0 ≡ last_number t s = omega arith in
     by_test (entered t s) (λ y. rw (off, y, none) zero_more) (λ n. rw (off, n) refl)
 
+-- a train that has not come on has no number
+pub off_number : (t : ℕ) (s : Story) → entered t s ≡ false → last_number t s ≡ 0
+unfolding ever last_number
+off_number t [] off = refl
+off_number t (e ∷ s) off = by_test (enters t e.event)
+    (λ a. absurd (let b : true ≡ false = rw a at off in cc))
+    (λ a. let before : entered t s ≡ false = rw a at off in rw (a, before) (off_number t s before))
+
 pub limit_kept : (line : Line) (t : ℕ) (x : Transition) (s : Story) → enters t x.event ≡ false → nat_lt (last_number t s) (taken_number t (world_took x)) ≡ false → limit_held line t (x ∷ s) ≡ limit_held line t s
 unfolding limit_held
 limit_kept line t x s off old = by_test (entered t s) (λ on. rw (off, on, old) refl) (λ n. rw (off, n) refl)
@@ -128,6 +136,21 @@ limit_next line t x s h on new accepted = rw (h, on, new, accepted) refl
 pub limit_refused : (line : Line) (t : ℕ) (x : Transition) (s : Story) → enters t x.event ≡ false → accepts_some line t s (limit_place line t s) (taken_path t (world_took x)) ≡ false → limit_held line t (x ∷ s) ≡ limit_held line t s
 unfolding limit_held
 limit_refused line t x s h refused = by_test (is_new_to t x s) (λ y. rw (h, y, refused) refl) (λ n. rw (h, n) refl)
+
+-- The train's last decision: that on its entry authority as it comes on, that on a new number, or the one before.
+
+pub decided_on : (line : Line) (t : ℕ) (x : Transition) (s : Story) → enters t x.event ≡ true → last_taken line t (x ∷ s) ≡ true
+unfolding last_taken
+decided_on line t x s h = rw h refl
+
+pub decided_next : (line : Line) (t : ℕ) (x : Transition) (s : Story) → enters t x.event ≡ false → entered t s ≡ true → nat_lt (last_number t s) (taken_number t (world_took x)) ≡ true
+    → last_taken line t (x ∷ s) ≡ accepts_some line t s (limit_place line t s) (taken_path t (world_took x))
+unfolding last_taken
+decided_next line t x s h on new = rw (h, on, new) refl
+
+pub decided_kept : (line : Line) (t : ℕ) (x : Transition) (s : Story) → enters t x.event ≡ false → nat_lt (last_number t s) (taken_number t (world_took x)) ≡ false → last_taken line t (x ∷ s) ≡ last_taken line t s
+unfolding last_taken
+decided_kept line t x s off old = by_test (entered t s) (λ on. rw (off, on, old) refl) (λ n. rw (off, n) refl)
 
 -- What is kept where a train is not spoken of.
 

@@ -1,7 +1,8 @@
 -- What is issued for a message that is taken: by a zone nothing, or one authority to the world, of the train that the message names;
 -- by the world nothing, or one answer to the sender.
-use Rattle.std.proofs.Common.{◌≡◌, ℕ, ◌+◌, ◌≤◌, List, [], ◌∷◌, Option, Some, None, Bool, true, false, refl, sym, subst, arith}
-use Rattle.std.specs.Prelude.{nat_eq, nat_lt}
+use Rattle.std.proofs.Common.{◌≡◌, ℕ, ◌+◌, ◌≤◌, ◌<◌, List, [], ◌∷◌, Option, Some, None, Bool, true, false, ◌&&◌, refl, sym, subst, arith}
+use Rattle.std.proofs.lemmas.Bool.Decides.{nat_tests}
+use Rattle.std.specs.Prelude.{nat_eq, nat_le, nat_lt}
 use Rattle.list_laws.proofs.By_test.{by_test}
 use Rattle.track_points.specs.declared.ids.DirSeg.{DirSeg}
 use Rattle.track_points.specs.declared.ids.TrainId.{TrainId}
@@ -10,17 +11,17 @@ use Rattle.track_points.specs.Points.{Lengths, end_place}
 use Rattle.definitions.specs.declared.message.Msg.{Msg}
 use Rattle.definitions.specs.declared.message.Msg.TheVariants as msg
 use Rattle.definitions.specs.declared.message.Order.{Order}
-use Rattle.definitions.specs.declared.message.Order.TheVariants.{Close, Open}
+use Rattle.definitions.specs.declared.message.Order.TheVariants.{Close, Open, Short}
 use Rattle.definitions.specs.Track.{Line, seg_len}
 use Rattle.definitions.specs.Ways.{PlainWay}
 use Rattle.definitions.specs.Story.{Story}
 use Rattle.definitions.specs.World.{clock, entered, last_number, last_taken, accepts, limit_place, is_auth}
-use Rattle.definitions.specs.Control.{controls, knows, knows_most, now_with, last_issued}
-use Rattle.definitions.specs.Longest.{counted}
+use Rattle.definitions.specs.Control.{controls, knows, knows_most, known_train, now_with, last_issued}
+use Rattle.definitions.specs.Longest.{counted, is_pending}
 use Rattle.definitions.specs.Fronts.{is_used, possible_front}
-use Rattle.definitions.specs.Authority.{way, holder_of}
+use Rattle.definitions.specs.Authority.{way, way_start, holder_of}
 use Rattle.definitions.specs.Limit.{Reach, asked_way, limit}
-use Rattle.definitions.specs.Steps.{entry_path, path_to, zone_entry, zone_ask, zone_report, zone_time, zone_order, zone_takes, taking_auth, world_takes}
+use Rattle.definitions.specs.Steps.{entry_path, path_to, place_of_step, zone_entry, zone_ask, zone_report, zone_time, sent_again, zone_short, front_after, zone_order, zone_takes, taking_auth, world_takes}
 use Rattle.event_laws.proofs.Issued_all.{AllIn, AtMostOne, says_nothing, says_one, each_issued, NoAuth}
 
 -- A zone.
@@ -53,22 +54,46 @@ time_cases P true counted_ last u (Some v) f g = by_test (nat_lt counted_ last)
 pub report_none : (line : Line) (z : ℕ) (s : Story) (u : TrainId) (m : Msg) → (zone_report line z s u m).issued ≡ []
 report_none line z s u m = by_test (is_used line z u.0 s (possible_front line z u.0 s) m) (λ y. rw y refl) (λ n. rw n refl)
 
-pub order_none : (z : ℕ) (order : Order) → (zone_order z order).issued ≡ []
-order_none z (Close seg) = refl
-order_none z (Open seg) = refl
-order_none z _ = refl
+-- a short order issues nothing, or an authority over the way up to a place before its end that the greatest front has not passed
+pub short_cases : (P : Type 0) (line : Line) (z : ℕ) (s : Story) (u : TrainId) (front : ℕ) (w : Option PlainWay) (st : DirSeg) (off : ℕ) → ((zone_short line z s u front w st off).issued ≡ [] → P)
+    → ((v : PlainWay) (p : ℕ) → w ≡ Some v → is_pending line u.0 s ≡ false → front ≤ way_start line u.0 s v + p → p < end_place (seg_len line) v.path
+    → (zone_short line z s u front w st off).issued ≡ (0, msg.Auth u (last_issued u.0 s + 1) v.mark (path_to (seg_len line) v.path.from v.path.steps.items p)) ∷ [] → P) → P
+short_cases P line z s u front None st off f g = f refl
+short_cases P line z s u front (Some v) st off f g = by_test (known_train z u.0 s).equipped
+    (λ fit. by_test (is_pending line u.0 s)
+    (λ y. f (rw (fit, y) refl))
+    (λ n. by_place (place_of_step (seg_len line) v.path.steps.items st off) refl n fit))
+    (λ n. f (rw n refl))
+  where
+    by_place : (r : Option ℕ) → place_of_step (seg_len line) v.path.steps.items st off ≡ r → is_pending line u.0 s ≡ false → (known_train z u.0 s).equipped ≡ true → P
+    by_place None is n fit = f (rw (fit, n, is) refl)
+    by_place (Some p) is n fit = by_test (nat_le front (way_start line u.0 s v + p) && nat_lt p (end_place (seg_len line) v.path))
+        (λ y. g v p refl n (grind (arith, nat_tests)) (grind (arith, nat_tests)) (rw (fit, n, is, y) refl))
+        (λ m. f (rw (fit, n, is, m) refl))
+
+-- the train that an order names; 0 where it names none
+abbrev pub order_train : Order → TrainId
+order_train (Short u st off) = u
+order_train _ = record { 0 = 0 }
+
+-- how many numbers an order asks for
+abbrev pub order_asks : Order → ℕ
+order_asks (Short u st off) = 1
+order_asks _ = 0
 
 -- the train of which a zone may issue an authority for a message: the one that it names; 0 where it issues none
 abbrev pub train_of : Msg → TrainId
 train_of (msg.EntryAsk u time long error speed equipped step) = u
 train_of (msg.Ask u time steps to) = u
 train_of (msg.Time time u) = u
+train_of (msg.Order time order) = order_train order
 train_of _ = record { 0 = 0 }
 
--- how many numbers a message asks for: one as a request for entry or an ask
+-- how many numbers a message asks for: one as a request for entry, an ask or a short order
 abbrev pub asks : Msg → ℕ
 asks (msg.EntryAsk u time long error speed equipped step) = 1
 asks (msg.Ask u time steps to) = 1
+asks (msg.Order time order) = order_asks order
 asks _ = 0
 
 -- an authority to the world, of the train that a message names, under the last number at most, or the next where it was asked
@@ -83,6 +108,15 @@ pub record Grants (s : Story) (q : Msg) (x : ℕ × Msg) : Type 0 where
 grants : (s : Story) (q : Msg) (number mark : ℕ) (path : Path) → number ≤ last_issued (train_of q).0 s + asks q → Grants s q (0, msg.Auth (train_of q) number mark path)
 grants s q number mark path most = record { to_world = refl; number = number; mark = mark; path = path; is = refl; most = most }
 
+order_issues : (line : Line) (z : ℕ) (s : Story) (time : ℕ) (order : Order) → AtMostOne (Grants s (msg.Order time order)) (zone_order line z s (msg.Order time order) order).issued
+order_issues line z s time (Short u st off) =
+    let q = msg.Order time (Short u st off) in
+    short_cases (AtMostOne (Grants s q) (zone_order line z s q (Short u st off)).issued) line z s u (front_after line z u.0 s q) (way line z u.0 s) st off
+    (λ h. says_nothing h) (λ v p is free ahead before h. says_one _ h (grants s q _ _ _ (omega arith)))
+order_issues line z s time (Close seg) = says_nothing refl
+order_issues line z s time (Open seg) = says_nothing refl
+order_issues line z s time _ = says_nothing refl
+
 pub zone_issues : (line : Line) (z from : ℕ) (s : Story) (q : Msg) → AtMostOne (Grants s q) (zone_takes line z from s q).issued
 zone_issues line z from s (msg.EntryAsk u time long error speed equipped step) =
     let q = msg.EntryAsk u time long error speed equipped step in
@@ -94,10 +128,10 @@ zone_issues line z from s (msg.Ask u time steps to) =
     (λ h. says_nothing h) (λ v is far h. says_one _ h (grants s q _ _ _ (omega arith)))
 zone_issues line z from s (msg.Time time u) =
     let q = msg.Time time u in
-    time_cases (AtMostOne (Grants s q) (zone_takes line z from s q).issued) (controls z u.0 s) (counted line u.0 s) (last_issued u.0 s) u (way line z u.0 s)
+    time_cases (AtMostOne (Grants s q) (zone_takes line z from s q).issued) (controls z u.0 s) (counted line u.0 s) (last_issued u.0 s) u (sent_again line u.0 s (way line z u.0 s))
     (λ h. says_nothing h) (λ v is c h. says_one _ h (grants s q _ _ _ (omega arith)))
 zone_issues line z from s (msg.Report u time mark offset integrity) = says_nothing (report_none line z s u (msg.Report u time mark offset integrity))
-zone_issues line z from s (msg.Order time order) = says_nothing (order_none z order)
+zone_issues line z from s (msg.Order time order) = order_issues line z s time order
 zone_issues line z from s _ = says_nothing refl
 
 -- what each message is that a zone issues

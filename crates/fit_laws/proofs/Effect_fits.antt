@@ -1,8 +1,8 @@
 -- What an event issues is in its ranges.
-use Rattle.std.proofs.Common.{◌≡◌, ℕ, zero, suc, ◌-◌, ◌≤◌, ◌∷◌, length, Option, Some, None, Bool, true, ◌||◌, not, refl, sym, ap, subst, arith}
+use Rattle.std.proofs.Common.{◌≡◌, ℕ, zero, suc, ◌-◌, ◌≤◌, ◌∷◌, length, Option, Some, None, Bool, true, ◌||◌, not, refl, sym, ◌∙◌, ap, subst, arith}
 use Rattle.std.proofs.lemmas.Bool.{and_parts, eqb-true}
 use Rattle.std.proofs.lemmas.Bool.Decides.{nat_tests}
-use Rattle.std.specs.Prelude.{ℤ, pos, ◌-ℤ◌, nat_eq, is_some}
+use Rattle.std.specs.Prelude.{ℤ, pos, ◌-ℤ◌, ◌%◌, nat_eq, nat_lt, is_some}
 use Rattle.std.specs.Int.Signed.{le_z}
 use Rattle.std.specs.List.{list_all}
 use Rattle.list_laws.proofs.By_test.{by_or}
@@ -11,11 +11,11 @@ use Rattle.track_points.specs.declared.ids.DirSeg.{DirSeg}
 use Rattle.track_points.specs.declared.ids.SegId.{SegId}
 use Rattle.track_points.specs.declared.ids.TrainId.{TrainId}
 use Rattle.definitions.specs.declared.event.Event.{Event}
-use Rattle.definitions.specs.declared.event.Event.TheVariants.{Entry, Enter, Ask, Report, Time, Close, Open, Take, Noise}
+use Rattle.definitions.specs.declared.event.Event.TheVariants.{Entry, Enter, Ask, Report, Time, Close, Open, Shorten, Take, Noise}
 use Rattle.definitions.specs.declared.message.Msg.{Msg}
 use Rattle.definitions.specs.declared.message.Msg.TheVariants as msg
 use Rattle.definitions.specs.declared.message.Order.TheVariants as orders
-use Rattle.definitions.specs.FrameLayouts.{train, id, any_train, time, any, end, facts, report, time_told, entry_ask, ask, order_fields, order, order_told}
+use Rattle.definitions.specs.FrameLayouts.{train, id, any_train, time, any, end, step, step_number, facts, report, time_told, entry_ask, ask, order_fields, order, order_told}
 use Rattle.definitions.specs.Frames.{Fits, frame_at}
 use Rattle.definitions.specs.Track.{Line, ranged, zone_of, has_zone, has_segment, begins_at_portal, is_actor}
 use Rattle.definitions.specs.Premises.{on_line}
@@ -30,7 +30,7 @@ use Rattle.event_laws.proofs.By_does.{noise_issues}
 use Rattle.way_laws.proofs.Line_builds.{portal_on_line}
 use Rattle.invariant_laws.proofs.Invariant.{AuthTrue, Invariant}
 use Rattle.invariant_laws.proofs.One_route.{on_controls}
-use Rattle.step_laws.proofs.Effect_issues.{taker_is}
+use Rattle.invariant_laws.proofs.Zone_only.{actor_zone}
 use Rattle.fit_laws.proofs.Facts_in_range.{FactsInRange}
 use Rattle.fit_laws.proofs.Offset_fits.{offset_fits}
 use Rattle.fit_laws.proofs.Segment_ranges.{segment_ranges}
@@ -97,13 +97,26 @@ module _ (line : Line) (s : Story) (one : IsLineOfOneZone line) (b : Bounded s) 
       let most = r.most in
       ((omega arith, b.time), (((omega arith, omega arith), ((r.least, omega (arith, most)), (((omega arith, omega arith), refl), (omega arith, omega arith)))), refl))
 
+  -- an order to shorten a train's way
+  short_fits : (u : TrainId) (st : DirSeg) (off : ℕ) → is_declared u.0 s ≡ true → on_line line st ≡ true → ranged 1 10000000 off ≡ true → Fits (msg.Order (clock s) (orders.Short u st off))
+  unfolding Fits order_told time order order_fields id train step
+  short_fits u st off declared own near =
+      let t = train_fits s b u declared in
+      let few = t.0.1 in
+      let f = step_fits line st one.valid own in
+      let most = f.0.0.1 in
+      let some : nat_lt 0 (step_number st % 32768) ≡ true = ap (λ (y : DirSeg). nat_lt 0 y.seg.0) f.0.1 ∙ f.1 in
+      let least : 1 ≤ off = grind (arith, nat_tests) in
+      let near_ : off ≤ 10000000 = grind (arith, nat_tests) in
+      ((omega arith, b.time), (((omega arith, omega arith), ((t.0.0, omega (arith, few)), (((omega arith, most), some), (least, near_)))), ap (λ (y : DirSeg). orders.Short u y off) f.0.1))
+
   take_fits : (e : Event) (to from number : ℕ) (r : Option Msg) → message from to number s ≡ r → is_actor line to ≡ true → Bounded (taking line s e to from r ∷ s) → ((t : ℕ) → Invariant line t (taking line s e to from r ∷ s))
       → AllIn Fits (taking line s e to from r).issued
   unfolding AllIn AllIssued
   take_fits e to from number None is act after next = tt
   take_fits e zero from number (Some m) is act after next = world_fits line s b k from (number - 1) m is
   take_fits e (suc z) from number (Some m) is act after next =
-      let zone = taker_is line z one act in
+      let zone = actor_zone line z one act in
       subst (λ (y : ℕ). AllIn Fits (zone_step line y from s m).issued) (sym zone)
       (zone_fits line s one.valid b k (taking line s e (suc z) from (Some m)) after next from m
       (λ t. subst (λ (y : ℕ). AllIn (AuthTrue line t (taking line s e (suc z) from (Some m) ∷ s)) (zone_step line y from s m).issued) zone (newest t (next t))))
@@ -128,6 +141,11 @@ module _ (line : Line) (s : Story) (one : IsLineOfOneZone line) (b : Bounded s) 
       let f = and_parts (le_z (pos 0 -ℤ pos 1000000) offset) (le_z offset (pos 11000000)) d.1 in
       (reported_fits u offset whole b.0 (and_parts (entered u.0 s) _ a.reporting).0 f.0 f.1, tt)
   effect_fits (Time z u) a after next = (timed_fits u (and_parts (has_zone line z.0) _ a.form).1, tt)
+  effect_fits (Shorten z u st off) a after next =
+      let b = and_parts (has_zone line z.0) _ a.form in
+      let c = and_parts (is_declared u.0 s) _ b.1 in
+      let d = and_parts (on_line line st) (ranged 1 10000000 off) c.1 in
+      (short_fits u st off c.0 d.0 d.1, tt)
   effect_fits (Take to from number) a after next =
       let b = and_parts (not (nat_eq to from)) _ a.form in
       take_fits (Take to from number) to from number (message from to number s) refl (and_parts (is_actor line to) (is_actor line from) b.1).0 after next

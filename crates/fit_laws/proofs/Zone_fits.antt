@@ -1,6 +1,7 @@
 -- What is issued for a message that is taken is in its ranges.
-use Rattle.std.proofs.Common.{◌≡◌, ℕ, ◌+◌, ◌≤◌, ◌<◌, List, [], ◌∷◌, length, Some, None, Bool, true, false, refl, sym, ◌∙◌, ap, subst, arith}
+use Rattle.std.proofs.Common.{◌≡◌, ℕ, ◌+◌, ◌≤◌, ◌<◌, List, [], ◌∷◌, length, Option, Some, None, Bool, true, false, refl, sym, ◌∙◌, ap, subst, arith}
 use Rattle.std.proofs.lemmas.Bool.{and_parts}
+use Rattle.std.proofs.lemmas.Option.{same_Some}
 use Rattle.std.specs.Prelude.{nat_lt, slice_get}
 use Rattle.std.specs.List.{list_all}
 use Rattle.list_laws.proofs.By_test.{by_test, eq_self}
@@ -10,6 +11,8 @@ use Rattle.track_points.specs.declared.path.Path.{Path}
 use Rattle.track_points.specs.Points.{total}
 use Rattle.definitions.specs.declared.message.Msg.{Msg}
 use Rattle.definitions.specs.declared.message.Msg.TheVariants as msg
+use Rattle.definitions.specs.declared.message.Order.{Order}
+use Rattle.definitions.specs.declared.message.Order.TheVariants.{Close, Open, Short}
 use Rattle.definitions.specs.FrameLayouts.{train, id, time, ordinal, any, yes, answer, auth}
 use Rattle.definitions.specs.Frames.{Fits}
 use Rattle.definitions.specs.Track.{Line, seg_len}
@@ -21,12 +24,13 @@ use Rattle.definitions.specs.World.{Facts, clock, facts_of, is_declared, entered
 use Rattle.definitions.specs.Control.{controls, knows, knows_most, now_with, last_issued}
 use Rattle.definitions.specs.Longest.{counted, longest_end, longest_route}
 use Rattle.definitions.specs.Fronts.{least_rear}
-use Rattle.definitions.specs.Authority.{way, holder_of}
+use Rattle.definitions.specs.Authority.{way, shrink_on, holder_of}
 use Rattle.definitions.specs.Limit.{limit}
-use Rattle.definitions.specs.Steps.{entry_path, taking_auth, world_takes, zone_takes}
+use Rattle.definitions.specs.Steps.{entry_path, taking_auth, world_takes, up_to, sent_again, front_after, zone_order, zone_takes}
 use Rattle.definitions.specs.Zones.{zone_id}
 use Rattle.event_laws.proofs.Issued_all.{AllIn, issued_all}
-use Rattle.event_laws.proofs.Zone_issues.{entry_cases, ask_cases, time_cases, report_none, order_none}
+use Rattle.event_laws.proofs.Controls_same.{way_controls}
+use Rattle.event_laws.proofs.Zone_issues.{entry_cases, ask_cases, time_cases, short_cases, report_none}
 use Rattle.way_laws.proofs.Between_points.{behind_rear, between_rear, between_first}
 use Rattle.invariant_laws.proofs.Invariant.{AuthTrue, AuthIs, Invariant}
 use Rattle.invariant_laws.proofs.One_route.{numbered_controls, journey_few}
@@ -77,9 +81,9 @@ auth_fits line s l b u number mark path k is from =
     let some = is.positive in
     let known = is.known in
     let most = b.numbers u.0 in
-    let at = is.authority.mark in
+    let at = is.path.mark in
     let few = mark_fits line u.0 s b k (omega (arith, some, known)) in
-    (train_fits s b u is.authority.declared, ((some, omega (arith, known, most)), ((omega arith, omega (arith, at, few)), path_in_frame line path l is.authority.fits is.authority.own is.authority.above from)))
+    (train_fits s b u is.path.declared, ((some, omega (arith, known, most)), ((omega arith, omega (arith, at, few)), path_in_frame line path l is.path.fits is.path.own is.path.above from)))
 
 -- By the world: an answer.
 
@@ -118,11 +122,6 @@ between_low line steps rear end l own order room =
     let same = ap (first_len (seg_len line)) at.1 in
     omega (arith, first, short, same)
 
-some_way : (line : Line) (t : ℕ) (s : Story) (v : PlainWay) → way line (zone_id line) t s ≡ Some v → controls (zone_id line) t s ≡ true
-some_way line t s v is = by_test (controls (zone_id line) t s)
-    (λ y. y)
-    (λ n. absurd (let e : None ≡ Some v = rw n at is in cc))
-
 -- the way of a controlled train begins before the end of a segment
 way_from : (line : Line) (t : ℕ) (s : Story) (v : PlainWay) → is_line line ≡ true → Invariant line t s → controls (zone_id line) t s ≡ true → way line (zone_id line) t s ≡ Some v → v.path.from ≤ 9999999
 way_from line t s v l k c is =
@@ -145,6 +144,33 @@ module _ (line : Line) (s : Story) (l : is_line line ≡ true) (b : Bounded s) (
   unfolding AllIn
   none_fits issued is = rw is tt
 
+  -- what is sent again begins where the way does
+  again_from : (t : ℕ) (v : PlainWay) → controls (zone_id line) t s ≡ true → sent_again line t s (way line (zone_id line) t s) ≡ Some v → v.path.from ≤ 9999999
+  again_from t v c is = by_way (way line (zone_id line) t s) refl is
+    where
+      begins : (p : Option ℕ) (w : PlainWay) → (up_to (seg_len line) p w).path.from ≡ w.path.from
+      begins None w = refl
+      begins (Some p) w = refl
+
+      by_way : (w : Option PlainWay) → way line (zone_id line) t s ≡ w → sent_again line t s w ≡ Some v → v.path.from ≤ 9999999
+      by_way None found is = absurd cc
+      by_way (Some w) found is =
+          let from = way_from line t s w l (k t) c found in
+          let e = ap (λ (y : PlainWay). y.path.from) (same_Some (up_to (seg_len line) (shrink_on line t s w) w) v is) in
+          let b = begins (shrink_on line t s w) w in
+          omega (arith, from, e, b)
+
+  order_fits : (moment : ℕ) (order : Order) → ((t : ℕ) → AllIn (AuthTrue line t (x ∷ s)) (zone_order line (zone_id line) s (msg.Order moment order) order).issued) → AllIn Fits (zone_order line (zone_id line) s (msg.Order moment order) order).issued
+  order_fits moment (Short u st off) a =
+      let order = msg.Order moment (Short u st off) in
+      let issued = (zone_order line (zone_id line) s order (Short u st off)).issued in
+      short_cases (AllIn Fits issued) line (zone_id line) s u (front_after line (zone_id line) u.0 s order) (way line (zone_id line) u.0 s) st off
+      (none_fits issued)
+      (λ v p is free ahead before h. one_fits issued u (last_issued u.0 s + 1) v.mark _ a h (way_from line u.0 s v l (k u.0) (way_controls line (zone_id line) u.0 s v is) is))
+  order_fits moment (Close seg) a = none_fits _ refl
+  order_fits moment (Open seg) a = none_fits _ refl
+  order_fits moment _ a = none_fits _ refl
+
   pub zone_fits : (from : ℕ) (q : Msg) → ((t : ℕ) → AllIn (AuthTrue line t (x ∷ s)) (zone_takes line (zone_id line) from s q).issued) → AllIn Fits (zone_takes line (zone_id line) from s q).issued
   zone_fits from (msg.EntryAsk u time long error speed equipped step) a =
       let issued = (zone_takes line (zone_id line) from s (msg.EntryAsk u time long error speed equipped step)).issued in
@@ -155,13 +181,13 @@ module _ (line : Line) (s : Story) (l : is_line line ≡ true) (b : Bounded s) (
       let issued = (zone_takes line (zone_id line) from s (msg.Ask u time steps to)).issued in
       ask_cases (AllIn Fits issued) (seg_len line) (zone_id line) u (last_issued u.0 s) (way line (zone_id line) u.0 s) steps.items (limit line (zone_id line) u.0 s (now_with (zone_id line) s (msg.Ask u time steps to)) steps.items to)
       (none_fits issued)
-      (λ v is far h. one_fits issued u (last_issued u.0 s + 1) v.mark _ a h (way_from line u.0 s v l (k u.0) (some_way line u.0 s v is) is))
+      (λ v is far h. one_fits issued u (last_issued u.0 s + 1) v.mark _ a h (way_from line u.0 s v l (k u.0) (way_controls line (zone_id line) u.0 s v is) is))
   zone_fits from (msg.Time time u) a =
       let issued = (zone_takes line (zone_id line) from s (msg.Time time u)).issued in
-      time_cases (AllIn Fits issued) (controls (zone_id line) u.0 s) (counted line u.0 s) (last_issued u.0 s) u (way line (zone_id line) u.0 s)
+      time_cases (AllIn Fits issued) (controls (zone_id line) u.0 s) (counted line u.0 s) (last_issued u.0 s) u (sent_again line u.0 s (way line (zone_id line) u.0 s))
       (none_fits issued)
-      (λ v is c h. one_fits issued u (last_issued u.0 s) v.mark v.path a h (way_from line u.0 s v l (k u.0) c is))
+      (λ v is c h. one_fits issued u (last_issued u.0 s) v.mark v.path a h (again_from u.0 v c is))
   zone_fits from (msg.Report u time mark offset integrity) a =
       none_fits _ (report_none line (zone_id line) s u (msg.Report u time mark offset integrity))
-  zone_fits from (msg.Order time order) a = none_fits _ (order_none (zone_id line) order)
+  zone_fits from (msg.Order moment order) a = order_fits moment order a
   zone_fits from _ a = none_fits _ refl

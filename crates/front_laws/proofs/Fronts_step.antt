@@ -31,11 +31,12 @@ use Rattle.invariant_laws.proofs.Invariant.{step_begin, ReportIs, ReportTrue, Fr
 use Rattle.event_laws.proofs.By_does.{took_issued, effect_took}
 use Rattle.front_laws.proofs.Head_place.{place_within, longest_mark}
 use Rattle.definitions.specs.World.{journey}
-use Rattle.definitions.specs.Account.{Account, ruled, shrink_end}
+use Rattle.definitions.specs.Account.{ruled, shrink_end}
 use Rattle.definitions.specs.Fold.{account, by_answer}
 use Rattle.motion_laws.proofs.Motion.{place}
 use Rattle.front_laws.proofs.Ruled_is.{ruled_is}
 use Rattle.front_laws.proofs.Report_ruled.{cut_ruled, true_kept}
+use Rattle.front_laws.proofs.Taken_counts.{takes_some, cuts}
 use Rattle.front_laws.proofs.Fronts_numbers.{takes_by, grown_to, fronts_grown, fronts_unused, named_place, moved_since, fronts_left, fronts_kept}
 use Rattle.event_laws.proofs.Account_next.{fronts_idle, fronts_acted}
 use Rattle.event_laws.proofs.Controls_same.{now_idle, now_acted, controls_before}
@@ -46,11 +47,6 @@ estimate : (begin other was error same : ℕ) (offset : ℤ) → other ≡ begin
     → (le_z (pos other +ℤ offset) (pos (was + same)) ≡ true) × (le_z (pos was) (pos other +ℤ offset +ℤ pos same) ≡ true)
 estimate begin other was error same offset b e least most = (grind (arith, ints, nat_tests), grind (arith, ints, nat_tests))
 
--- what the zone took is the answer that takes the shrink
-abbrev pub takes_some : ℕ → Account → Option (ℕ × Msg) → Bool
-takes_some t v None = false
-takes_some t v (Some x) = takes_by t v x.1
-
 between : (lo hi p : ℕ) → lo ≤ p → p ≤ hi → (nat_le lo p && nat_le p hi) ≡ true
 between lo hi p a b = grind (arith, nat_tests)
 
@@ -59,8 +55,8 @@ within_ends lo hi p h = (grind (arith, nat_tests), grind (arith, nat_tests))
 
 -- a train that its zone controls, and an event that does not grant its entry
 module _ (line : Line) (s : Story) (e : Event) (t : ℕ) (one : IsLineOfOneZone line) (admitted : Admitted line s e) (timed : Timed s)
-    (invariant : Invariant line t s) (grows : (nat_eq (effects line s e).actor (zone_id line) && takes_some t (account line t s) (effects line s e).took) ≡ false → longest_end line t s ≤ longest_end line t (effects line s e ∷ s))
-    (cut : (nat_eq (effects line s e).actor (zone_id line) && takes_some t (account line t s) (effects line s e).took) ≡ true → (place t s ≤ shrink_end (seg_len line) (journey line t s) (account line t s)) × (shrink_end (seg_len line) (journey line t s) (account line t s) ≤ longest_end line t (effects line s e ∷ s)))
+    (invariant : Invariant line t s) (grows : cuts line t (effects line s e) s ≡ false → longest_end line t s ≤ longest_end line t (effects line s e ∷ s))
+    (cut : cuts line t (effects line s e) s ≡ true → (place t s ≤ shrink_end (seg_len line) (journey line t s) (account line t s)) × (shrink_end (seg_len line) (journey line t s) (account line t s) ≤ longest_end line t (effects line s e ∷ s)))
     (controlled : controls (zone_id line) t s ≡ true) (none : grants_entry (zone_id line) t (effects line s e) ≡ false) where
   abbrev z : ℕ
   z = zone_id line
@@ -105,7 +101,7 @@ module _ (line : Line) (s : Story) (e : Event) (t : ℕ) (one : IsLineOfOneZone 
       }
 
   -- where neither the fronts nor Now change
-  same_fronts : (nat_eq (effects line s e).actor (zone_id line) && takes_some t (account line t s) (effects line s e).took) ≡ false → ((f : ℕ) → possible_front line (zone_id line) t (effects line s e ∷ s) f ≡ possible_front line (zone_id line) t s f)
+  same_fronts : cuts line t (effects line s e) s ≡ false → ((f : ℕ) → possible_front line (zone_id line) t (effects line s e ∷ s) f ≡ possible_front line (zone_id line) t s f)
       → now_of (zone_id line) (effects line s e ∷ s) ≡ now_of (zone_id line) s → FrontsAre line t (effects line s e ∷ s)
   same_fronts no_taker same now_ =
       let grown_end = grows no_taker in
@@ -161,7 +157,7 @@ module _ (line : Line) (s : Story) (e : Event) (t : ℕ) (one : IsLineOfOneZone 
         let w = at_within in
         omega (arith, f, high, w)
 
-    none_takes : takes_by t (account line t s) n ≡ false → (nat_eq (effects line s e).actor (zone_id line) && takes_some t (account line t s) (effects line s e).took) ≡ false
+    none_takes : takes_by t (account line t s) n ≡ false → cuts line t (effects line s e) s ≡ false
     none_takes h = let k = ap (takes_some t (account line t s)) took ∙ h in rw (acts, k) refl
 
     fronts_grow : is_used line (zone_id line) t s (possible_front line (zone_id line) t s) n ≡ false → takes_by t (account line t s) n ≡ false → FrontsAre line t (effects line s e ∷ s)
@@ -301,8 +297,8 @@ fronts_start line t c = absurd cc
 
 pub fronts_step : (line : Line) (s : Story) (e : Event) → IsLineOfOneZone line → Admitted line s e → Timed s → Timed (effects line s e ∷ s) → ((t : ℕ) → Invariant line t s)
     → (t : ℕ) → Motion t (effects line s e ∷ s) → Authorized line t (effects line s e ∷ s)
-    → (controls (zone_id line) t s ≡ true → (nat_eq (effects line s e).actor (zone_id line) && takes_some t (account line t s) (effects line s e).took) ≡ false → longest_end line t s ≤ longest_end line t (effects line s e ∷ s))
-    → (controls (zone_id line) t s ≡ true → (nat_eq (effects line s e).actor (zone_id line) && takes_some t (account line t s) (effects line s e).took) ≡ true → (place t s ≤ shrink_end (seg_len line) (journey line t s) (account line t s)) × (shrink_end (seg_len line) (journey line t s) (account line t s) ≤ longest_end line t (effects line s e ∷ s)))
+    → (controls (zone_id line) t s ≡ true → cuts line t (effects line s e) s ≡ false → longest_end line t s ≤ longest_end line t (effects line s e ∷ s))
+    → (controls (zone_id line) t s ≡ true → cuts line t (effects line s e) s ≡ true → (place t s ≤ shrink_end (seg_len line) (journey line t s) (account line t s)) × (shrink_end (seg_len line) (journey line t s) (account line t s) ≤ longest_end line t (effects line s e ∷ s)))
     → controls (zone_id line) t (effects line s e ∷ s) ≡ true → FrontsAre line t (effects line s e ∷ s)
 fronts_step line s e one admitted timed timed_next invariant t m auth grows cut c =
     by_test (grants_entry (zone_id line) t (effects line s e))

@@ -13,7 +13,7 @@ use Rattle.definitions.specs.Zones.{zone_id}
 use Rattle.motion_laws.proofs.Motion.{place}
 use Rattle.way_laws.proofs.Cut_front.{cut_front}
 use Rattle.invariant_laws.proofs.Invariant.{step_begin, ControlIs, Invariant}
-use Rattle.invariant_laws.proofs.One_route.{OneRoute, one_route}
+use Rattle.invariant_laws.proofs.One_route.{OneRoute, portal_end, one_route}
 use Rattle.invariant_laws.proofs.Head_on.{place_on}
 
 -- A train that its zone controls.
@@ -31,7 +31,7 @@ module _ (line : Line) (t : ℕ) (s : Story) (valid : is_line line ≡ true) (in
       (λ off.
       let p : place t s ≡ long_of t s = rw off refl in
       let r = control_of.room in
-      let w = control_of.portal_within in
+      let w = portal_end line t s invariant.authorized controlled off in
       omega (arith, p, r, w))
 
   -- on the longest route the steps of the journey begin where they do on the journey

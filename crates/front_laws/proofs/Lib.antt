@@ -9,5 +9,7 @@ pub mod Entry_fronts
 pub mod Fronts_step
 pub mod Ends_narrowed
 pub mod Taken_counts
+pub mod Acts_count
+pub mod Account_goes
 pub mod Route_goes_on
 pub mod Way_begins

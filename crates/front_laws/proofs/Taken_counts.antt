@@ -1,187 +1,290 @@
--- What one transition makes of the account of a train none of whose authorities is a shrink: more of its numbers count, and what is issued is read.
-use Rattle.std.proofs.Common.{◌≡◌, ℕ, ◌<◌, ◌≤◌, List, [], ◌∷◌, Option, Some, None, Bool, true, false, ◌&&◌, refl, ◌∙◌, ap, arith, if◌then◌else◌}
+-- What a message makes of the numbers of a train's account: more of them count, or the shrink that is unanswered counts as refused, or
+-- as taken.
+use Rattle.std.proofs.Common.{◌≡◌, ℕ, ◌<◌, ◌≤◌, Option, Some, None, Bool, true, false, ◌&&◌, refl, sym, ◌∙◌, ap, subst, arith}
 use Rattle.std.proofs.lemmas.Bool.Decides.{nat_tests}
-use Rattle.std.specs.Prelude.{nat_eq, nat_le, nat_lt}
+use Rattle.std.proofs.lemmas.Bool.{and_parts}
+use Rattle.std.specs.Prelude.{List, nat_eq, nat_lt}
 use Rattle.list_laws.proofs.By_test.{by_test}
 use Rattle.track_points.specs.declared.ids.DirSeg.{DirSeg}
-use Rattle.track_points.specs.declared.ids.TrainId.{TrainId}
 use Rattle.track_points.specs.Points.{Lengths}
 use Rattle.definitions.specs.declared.message.Msg.{Msg}
 use Rattle.definitions.specs.declared.message.Msg.TheVariants as msg
-use Rattle.definitions.specs.Track.{Line, seg_len}
+use Rattle.definitions.specs.Track.{Line}
 use Rattle.definitions.specs.Story.{Transition, Story}
-use Rattle.definitions.specs.World.{Authority, authority_end, journey}
-use Rattle.definitions.specs.Control.{grants_entry, controls, now_with, last_issued}
-use Rattle.definitions.specs.Account.{Account, end_of, least_of, issues, answered, passed, with_fronts, with_at}
-use Rattle.definitions.specs.Fold.{account, acts, heard, heard_some, counts, fronts_heard, issues_all}
-use Rattle.definitions.specs.Longest.{counted}
-use Rattle.event_laws.proofs.Issued_all.{NoAuth}
-use Rattle.event_laws.proofs.Account_next.{account_next, all_numbered, based_same, counted_heard, issued_is, all_quiet}
+use Rattle.definitions.specs.World.{Authority}
+use Rattle.definitions.specs.Account.{Account, shrink_end, is_new, takes_shrink, answered, passed, with_at}
+use Rattle.definitions.specs.Fold.{account, counts}
+use Rattle.definitions.specs.Zones.{zone_id}
+use Rattle.invariant_laws.proofs.Invariant.{SomeIs}
 use Rattle.front_laws.proofs.Fronts_numbers.{takes_by}
-use Rattle.front_laws.proofs.Fronts_step.{takes_some}
 
--- more numbers count, of those that were issued
+-- more numbers count, and the shrink stays unanswered
 pub record Counts (v w : Account) : Type 0 where
+  pub shrink : w.shrink ≡ v.shrink
+  pub stood : w.stood ≡ v.stood
+  pub reads : w.reads ≡ v.reads
+  pub issued : w.issued ≡ v.issued
+  pub rises : v.counted ≤ w.counted
+  pub most : v.counted ≤ v.issued → w.counted ≤ v.issued
+  pub below : v.shrink ≡ v.issued → v.counted < v.shrink → w.counted < v.shrink
+
+-- the shrink counts as refused: its number reads what stood
+pub record Refuses (v w : Account) : Type 0 where
+  pub some : 0 < v.shrink
+  pub shrink : w.shrink ≡ 0
+  pub reads : w.reads ≡ with_at v.shrink v.stood v.reads
+  pub issued : w.issued ≡ v.issued
+  pub rises : v.counted ≤ w.counted
+  pub last : v.shrink ≡ v.issued → v.counted ≤ v.issued → w.counted ≡ v.shrink
+
+-- the shrink counts as taken
+pub record Takes (v w : Account) : Type 0 where
+  pub above : v.counted < v.shrink
   pub shrink : w.shrink ≡ 0
   pub reads : w.reads ≡ v.reads
   pub issued : w.issued ≡ v.issued
-  pub most : v.counted ≤ v.issued → w.counted ≤ v.issued
+  pub last : w.counted ≡ v.shrink
 
-same_counts : (v : Account) → v.shrink ≡ 0 → Counts v v
-same_counts v none = record { shrink = none; reads = refl; issued = refl; most = λ h. h }
+-- the longest authority stays
+pub data Calm (v w : Account) : Type 0 where
+  counting : Counts v w → Calm v w
+  refusing : Refuses v w → Calm v w
 
-answered_counts : (number : ℕ) (taken : Bool) (v : Account) → v.shrink ≡ 0 → Counts v (answered number taken v)
-answered_counts number taken v none = by_test (nat_lt v.counted number && nat_le number v.issued)
+pub data Took (v w : Account) : Type 0 where
+  calm : Calm v w → Took v w
+  taking : Takes v w → Took v w
+
+-- a shrink that is unanswered has the last number
+abbrev pub LastShrink : Account → Type 0
+LastShrink v = 0 < v.shrink → v.shrink ≡ v.issued
+
+-- Whatever it makes of them.
+
+pub took_issued : (v w : Account) → Took v w → w.issued ≡ v.issued
+took_issued v w (calm (counting c)) = c.issued
+took_issued v w (calm (refusing r)) = r.issued
+took_issued v w (taking k) = k.issued
+
+pub took_rises : (v w : Account) → Took v w → v.counted ≤ w.counted
+took_rises v w (calm (counting c)) = c.rises
+took_rises v w (calm (refusing r)) = r.rises
+took_rises v w (taking k) = let a = k.above in let l = k.last in omega (arith, a, l)
+
+pub took_most : (v w : Account) → LastShrink v → v.counted ≤ v.issued → Took v w → w.counted ≤ v.issued
+took_most v w last most (calm (counting c)) = c.most most
+took_most v w last most (calm (refusing r)) = let e = r.last (last r.some) most in let l = last r.some in omega (arith, e, l)
+took_most v w last most (taking k) = let a = k.above in let l = last (omega (arith, a)) in let e = k.last in omega (arith, e, l)
+
+-- a number above the greatest counted reads what it did
+pub took_reads : (v w : Account) → LastShrink v → v.counted ≤ v.issued → Took v w → (n : ℕ) → w.counted < n → w.reads n ≡ v.reads n
+took_reads v w last most (calm (counting c)) n h = ap (λ (r : ℕ → Option Authority). r n) c.reads
+took_reads v w last most (calm (refusing r)) n h =
+    let e = r.last (last r.some) most in
+    let other : nat_eq n v.shrink ≡ false = grind (arith, nat_tests) in
+    ap (λ (f : ℕ → Option Authority). f n) r.reads ∙ rw other refl
+took_reads v w last most (taking k) n h = ap (λ (r : ℕ → Option Authority). r n) k.reads
+
+-- what holds of all that was read, and of what stood, holds of all that is read
+pub took_have : (Q : Authority → Type 0) (v w : Account) → Took v w → (n : ℕ) → SomeIs Q (v.reads n) → (0 < v.shrink → SomeIs Q v.stood) → SomeIs Q (w.reads n)
+took_have Q v w (calm (counting c)) n h stood = subst (λ (r : ℕ → Option Authority). SomeIs Q (r n)) (sym c.reads) h
+took_have Q v w (calm (refusing r)) n h stood =
+    subst (λ (f : ℕ → Option Authority). SomeIs Q (f n)) (sym r.reads)
+    (by_test (nat_eq n v.shrink) (λ y. rw y (stood r.some)) (λ m. rw m h))
+took_have Q v w (taking k) n h stood = subst (λ (r : ℕ → Option Authority). SomeIs Q (r n)) (sym k.reads) h
+
+-- One after the other.
+
+then_counts : (v w u : Account) → Counts v w → Counts w u → Counts v u
+then_counts v w u a b =
+    let shrink = a.shrink in
+    let issued = a.issued in
+    let first_ = a.rises in
+    let second = b.rises in
+    record {
+      shrink = b.shrink ∙ a.shrink;
+      stood = b.stood ∙ a.stood;
+      reads = b.reads ∙ a.reads;
+      issued = b.issued ∙ a.issued;
+      rises = omega (arith, first_, second);
+      most = λ h. let m = a.most h in let n = b.most (omega (arith, m, issued)) in omega (arith, n, issued);
+      below = λ l h. let m = a.below l h in let n = b.below (omega (arith, l, shrink, issued)) (omega (arith, m, shrink)) in omega (arith, n, shrink);
+    }
+
+then_refuses : (v w u : Account) → Counts v w → Refuses w u → Refuses v u
+then_refuses v w u a b =
+    let shrink = a.shrink in
+    let issued = a.issued in
+    let some = b.some in
+    let first_ = a.rises in
+    let second = b.rises in
+    record {
+      some = omega (arith, some, shrink);
+      shrink = b.shrink;
+      reads = b.reads ∙ (ap (λ (n : ℕ). with_at n w.stood w.reads) shrink ∙ (ap (λ (o : Option Authority). with_at v.shrink o w.reads) a.stood ∙ ap (with_at v.shrink v.stood) a.reads));
+      issued = b.issued ∙ a.issued;
+      rises = omega (arith, first_, second);
+      last = λ l h. let m = a.most h in let e = b.last (omega (arith, l, shrink, issued)) (omega (arith, m, issued)) in omega (arith, e, shrink);
+    }
+
+refused_counts : (v w u : Account) → Refuses v w → Counts w u → Refuses v u
+refused_counts v w u a b =
+    let issued = a.issued in
+    let first_ = a.rises in
+    let second = b.rises in
+    record {
+      some = a.some;
+      shrink = b.shrink ∙ a.shrink;
+      reads = b.reads ∙ a.reads;
+      issued = b.issued ∙ a.issued;
+      rises = omega (arith, first_, second);
+      last = λ l h. let e = a.last l h in let m = b.most (omega (arith, e, l, issued)) in omega (arith, e, m, second, issued, l);
+    }
+
+pub then_calm : (v w u : Account) → Calm v w → Calm w u → Calm v u
+then_calm v w u (counting a) (counting b) = counting (then_counts v w u a b)
+then_calm v w u (counting a) (refusing b) = refusing (then_refuses v w u a b)
+then_calm v w u (refusing a) (counting b) = refusing (refused_counts v w u a b)
+then_calm v w u (refusing a) (refusing b) = let z = a.shrink in let some = b.some in absurd (omega (arith, z, some))
+
+-- An account with the same numbers.
+
+pub record Same (v w : Account) : Type 0 where
+  pub shrink : w.shrink ≡ v.shrink
+  pub stood : w.stood ≡ v.stood
+  pub reads : w.reads ≡ v.reads
+  pub issued : w.issued ≡ v.issued
+  pub counted : w.counted ≡ v.counted
+
+same_counts : (v w : Account) → Same v w → Counts v w
+same_counts v w a =
+    let shrink = a.shrink in
+    let issued = a.issued in
+    let counted = a.counted in
+    record {
+      shrink = shrink;
+      stood = a.stood;
+      reads = a.reads;
+      issued = issued;
+      rises = omega (arith, counted);
+      most = λ h. omega (arith, h, counted);
+      below = λ l h. omega (arith, h, counted);
+    }
+
+pub same_calm : (v w : Account) → Same v w → Calm v w
+same_calm v w a = counting (same_counts v w a)
+
+pub no_change : (v : Account) → Same v v
+no_change v = record { shrink = refl; stood = refl; reads = refl; issued = refl; counted = refl }
+
+pub same_takes : (v w u : Account) → Takes v w → Same w u → Takes v u
+same_takes v w u a b = record {
+  above = a.above;
+  shrink = b.shrink ∙ a.shrink;
+  reads = b.reads ∙ a.reads;
+  issued = b.issued ∙ a.issued;
+  last = b.counted ∙ a.last;
+}
+
+-- The numbers of a message.
+
+answered_calm : (number : ℕ) (taken : Bool) (v : Account) → takes_shrink number taken v ≡ false → Calm v (answered number taken v)
+answered_calm number taken v none = by_test (is_new number v)
+    (λ new. by_test (nat_eq number v.shrink)
+    (λ its. by_test taken
+    (λ y. absurd (let c : true ≡ false = rw (new, its, y) at none in cc))
     (λ y.
-    let other : nat_eq number v.shrink ≡ false = grind (arith, nat_tests) in
+    let some : 0 < v.shrink = grind (arith, nat_tests) in
+    rw (new, its, y) (refusing (record {
+      some = some;
+      shrink = refl;
+      reads = refl;
+      issued = refl;
+      rises = omega arith;
+      last = λ l h. omega (arith, l, h);
+    }))))
+    (λ other.
+    let more : v.counted < number = grind (arith, nat_tests) in
     let within : number ≤ v.issued = grind (arith, nat_tests) in
-    rw (y, other) (record { shrink = none; reads = refl; issued = refl; most = λ h. within }))
-    (λ n. rw n (same_counts v none))
+    rw (new, other) (counting (record {
+      shrink = refl;
+      stood = refl;
+      reads = refl;
+      issued = refl;
+      rises = omega (arith, more);
+      most = λ h. within;
+      below = λ l h. grind (arith, nat_tests);
+    }))))
+    (λ old. rw old (same_calm v v (no_change v)))
 
-answered_counted : (number : ℕ) (taken : Bool) (v : Account) → v.shrink ≡ 0 → (answered number taken v).counted ≡ (if nat_lt v.counted number && nat_le number v.issued then number else v.counted)
-answered_counted number taken v none = by_test (nat_lt v.counted number && nat_le number v.issued)
-    (λ y. let other : nat_eq number v.shrink ≡ false = grind (arith, nat_tests) in rw (y, other) refl)
-    (λ n. rw n refl)
+answered_takes : (number : ℕ) (taken : Bool) (v : Account) → takes_shrink number taken v ≡ true → Takes v (answered number taken v)
+answered_takes number taken v h =
+    let a = and_parts (is_new number v) (nat_eq number v.shrink && taken) h in
+    let b = and_parts (nat_eq number v.shrink) taken a.1 in
+    let new = a.0 in
+    let its = b.0 in
+    let y = b.1 in
+    let e : number ≡ v.shrink = grind (arith, nat_tests) in
+    let above : v.counted < v.shrink = grind (arith, nat_tests) in
+    rw (new, its, y) (record { above = above; shrink = refl; reads = refl; issued = refl; last = e })
 
-counts_counts : (t : ℕ) (m : Msg) (v : Account) → v.shrink ≡ 0 → Counts v (counts t m v)
-counts_counts t (msg.Answer u time number taken) v none = by_test (nat_eq u.0 t) (λ y. rw y (answered_counts number taken v none)) (λ n. rw n (same_counts v none))
-counts_counts t _ v none = same_counts v none
+pub counts_calm : (t : ℕ) (m : Msg) (v : Account) → takes_by t v m ≡ false → Calm v (counts t m v)
+counts_calm t (msg.Answer u time number taken) v none = by_test (nat_eq u.0 t)
+    (λ y. rw y (answered_calm number taken v (rw y at none)))
+    (λ n. rw n (same_calm v v (no_change v)))
+counts_calm t _ v none = same_calm v v (no_change v)
 
--- no answer takes a shrink
-pub none_takes : (t : ℕ) (v : Account) (m : Msg) → v.shrink ≡ 0 → takes_by t v m ≡ false
-none_takes t v (msg.Answer u time number taken) none = grind (arith, nat_tests)
-none_takes t v _ none = refl
+pub counts_takes : (t : ℕ) (m : Msg) (v : Account) → takes_by t v m ≡ true → Takes v (counts t m v)
+counts_takes t (msg.Answer u time number taken) v h =
+    let a = and_parts (nat_eq u.0 t) (takes_shrink number taken v) h in
+    let its = a.0 in
+    rw its (answered_takes number taken v a.1)
+counts_takes t _ v h = absurd cc
 
-pub none_taken : (t : ℕ) (v : Account) (took : Option (ℕ × Msg)) → v.shrink ≡ 0 → takes_some t v took ≡ false
-none_taken t v None none = refl
-none_taken t v (Some y) none = none_takes t v y.1 none
+pub passed_calm : (len : Lengths) (steps : List DirSeg) (least : ℕ) (w : Account) → Calm w (passed len steps least w)
+passed_calm len steps least w = by_test (nat_lt 0 w.shrink && nat_lt (shrink_end len steps w) least)
+    (λ y.
+    let some : 0 < w.shrink = grind (arith, nat_tests) in
+    rw y (refusing (record {
+      some = some;
+      shrink = refl;
+      reads = refl;
+      issued = refl;
+      rises = omega arith;
+      last = λ l h. omega (arith, l, h);
+    })))
+    (λ n. rw n (same_calm w w (no_change w)))
+
+-- no shrink is passed where none is unanswered
+pub passed_none : (len : Lengths) (steps : List DirSeg) (least : ℕ) (w : Account) → w.shrink ≡ 0 → passed len steps least w ≡ w
+passed_none len steps least w none =
+    let no : nat_lt 0 w.shrink ≡ false = grind (arith, nat_tests) in
+    rw no refl
 
 -- what is taken is an answer of the train
 abbrev pub answers : ℕ → Option (ℕ × Msg) → Bool
 answers t (Some (from, msg.Answer u time number taken)) = nat_eq u.0 t
 answers t _ = false
 
-uncounted : (t from : ℕ) (m : Msg) (v : Account) → answers t (Some (from, m)) ≡ false → counts t m v ≡ v
+pub uncounted : (t from : ℕ) (m : Msg) (v : Account) → answers t (Some (from, m)) ≡ false → counts t m v ≡ v
 uncounted t from (msg.Answer u time number taken) v h = rw h refl
 uncounted t from _ v h = refl
 
--- no shrink is passed by the least front
-unpassed : (len : Lengths) (steps : List DirSeg) (least : ℕ) (w : Account) → w.shrink ≡ 0 → passed len steps least w ≡ w
-unpassed len steps least w none =
-    let no : nat_lt 0 w.shrink ≡ false = grind (arith, nat_tests) in
-    rw no refl
+-- what is taken is the answer by which the shrink counts as taken
+abbrev pub takes_some : ℕ → Account → Option (ℕ × Msg) → Bool
+takes_some t v None = false
+takes_some t v (Some x) = takes_by t v x.1
 
-module _ (len : Lengths) (z t : ℕ) (s : Story) (steps : List DirSeg) (v : Account) (none : v.shrink ≡ 0) where
-  module _ (m : Msg) where
-    abbrev behind : Account
-    behind = with_fronts z (fronts_heard len z t s steps v (v.fronts z) m) (counts t m v)
+-- the line's zone takes the answer by which the train's longest authority is cut
+abbrev pub cuts : Line → ℕ → Transition → Story → Bool
+cuts line t x s = nat_eq x.actor (zone_id line) && takes_some t (account line t s) x.took
 
-    heard_same : {A : Type 0} (get : Account → A) → ((w : Account) (base : ℕ → ℕ) → get (record w { base = base }) ≡ get w)
-        → get (heard len z t s steps v m) ≡ get (with_fronts z (fronts_heard len z t s steps v (v.fronts z) m) (counts t m v))
-    heard_same get r =
-        let least = least_of (end_of len steps v) (fronts_heard len z t s steps v (v.fronts z) m) in
-        based_same get r z (now_with z s m) v.counted (passed len steps least behind)
-        ∙ ap get (unpassed len steps least behind (counts_counts t m v none).shrink)
+pub unanswered_takes : (t : ℕ) (v : Account) (took : Option (ℕ × Msg)) → answers t took ≡ false → takes_some t v took ≡ false
+unanswered_takes t v None h = refl
+unanswered_takes t v (Some (from, msg.Answer u time number taken)) h = rw h refl
+unanswered_takes t v (Some (from, _)) h = refl
 
-    heard_counted : (heard len z t s steps v m).counted ≡ (counts t m v).counted
-    heard_counted = heard_same (λ (w : Account). w.counted) (λ w b. refl)
-
-    heard_counts : Counts v (heard len z t s steps v m)
-    heard_counts =
-        let c = counts_counts t m v none in
-        let n = heard_counted in
-        record {
-          shrink = heard_same (λ (w : Account). w.shrink) (λ w b. refl) ∙ c.shrink;
-          reads = heard_same (λ (w : Account). w.reads) (λ w b. refl) ∙ c.reads;
-          issued = heard_same (λ (w : Account). w.issued) (λ w b. refl) ∙ c.issued;
-          most = λ h. let d = c.most h in omega (arith, n, d);
-        }
-
-  some_counts : (took : Option (ℕ × Msg)) → Counts v (heard_some len z t s steps v took)
-  some_counts None = same_counts v none
-  some_counts (Some y) = heard_counts y.1
-
-  some_uncounted : (took : Option (ℕ × Msg)) → answers t took ≡ false → (heard_some len z t s steps v took).counted ≡ v.counted
-  some_uncounted None h = refl
-  some_uncounted (Some y) h = heard_counted y.1 ∙ ap (λ (w : Account). w.counted) (uncounted t y.0 y.1 v h)
-
-acts_counts : (len : Lengths) (t : ℕ) (e : Transition) (s : Story) (steps : List DirSeg) (v : Account) → v.shrink ≡ 0 → Counts v (acts len t e s steps v)
-acts_counts len t e s steps v none = by_test (grants_entry e.actor t e)
-    (λ g. rw g (record { shrink = none; reads = refl; issued = refl; most = λ h. h }))
-    (λ g. by_test (controls e.actor t s)
-    (λ c. rw (g, c) (some_counts len e.actor t s steps v none e.took))
-    (λ c. rw (g, c) (same_counts v none)))
-
--- What is issued.
-
-module _ (len : Lengths) (steps : List DirSeg) (t : ℕ) where
-  all_one : (issued : List (ℕ × Msg)) (u : TrainId) (number : ℕ) (a : Authority) (v : Account) → issued ≡ (0, msg.Auth u number a.mark a.path) ∷ [] → nat_eq u.0 t ≡ true
-      → issues_all len steps t issued v ≡ issues len steps number a v
-  unfolding issues_all
-  all_one issued u number a v is its = ap (λ (l : List (ℕ × Msg)). issues_all len steps t l v) is ∙ rw its refl
-
-issues_again : (len : Lengths) (steps : List DirSeg) (number : ℕ) (a : Authority) (v : Account) → number ≤ v.issued → issues len steps number a v ≡ v
-issues_again len steps number a v h = let no : nat_lt v.issued number ≡ false = grind (arith, nat_tests) in rw no refl
-
-issues_longer : (len : Lengths) (steps : List DirSeg) (number : ℕ) (a : Authority) (v : Account) → v.issued < number → end_of len steps v ≤ authority_end len steps a
-    → issues len steps number a v ≡ record v { issued = number; reads = with_at number (Some a) v.reads }
-issues_longer len steps number a v h far =
-    let new : nat_lt v.issued number ≡ true = grind (arith, nat_tests) in
-    let longer : nat_lt (authority_end len steps a) (end_of len steps v) ≡ false = grind (arith, nat_tests) in
-    rw (new, longer) refl
-
-module _ (line : Line) (t : ℕ) (x : Transition) (s : Story) (none : (account line t s).shrink ≡ 0) where
-  abbrev len : Lengths
-  len = seg_len line
-
-  abbrev v : Account
-  v = account line t s
-
-  -- the account after what the zone took
-  abbrev pub account_taken : Account
-  account_taken = acts (seg_len line) t x s (journey line t s) (account line t s)
-
-  pub taken_counts : Counts (account line t s) (acts (seg_len line) t x s (journey line t s) (account line t s))
-  taken_counts = acts_counts len t x s (journey line t s) v none
-
-  counted_taken : counted line t (x ∷ s) ≡ (acts (seg_len line) t x s (journey line t s) (account line t s)).counted
-  counted_taken = ap (λ (w : Account). w.counted) (account_next line t x s) ∙ (all_numbered len (journey line t s) t x.issued account_taken).counted_same
-
-  pub more_counted : counted line t s ≤ (account line t s).issued → counted line t (x ∷ s) ≤ (account line t s).issued
-  more_counted most = let c = taken_counts.most most in let e = counted_taken in omega (arith, c, e)
-
-  pub counted_unanswered : answers t x.took ≡ false → counted line t (x ∷ s) ≡ counted line t s
-  counted_unanswered h =
-      counted_taken
-      ∙ by_test (grants_entry x.actor t x)
-      (λ g. rw g refl)
-      (λ g. by_test (controls x.actor t s)
-      (λ c. rw (g, c) (some_uncounted len x.actor t s (journey line t s) v none x.took h))
-      (λ c. rw (g, c) refl))
-
-  -- an answer counts where its number was issued and is above the greatest counted
-  pub counted_answered : (from : ℕ) (u : TrainId) (time number : ℕ) (taken : Bool) → x.took ≡ Some (from, msg.Answer u time number taken) → nat_eq u.0 t ≡ true → grants_entry x.actor t x ≡ false → controls x.actor t s ≡ true
-      → counted line t (x ∷ s) ≡ (if nat_lt (counted line t s) number && nat_le number (last_issued t s) then number else counted line t s)
-  counted_answered from u time number taken took its g c =
-      counted_heard line t x s from (msg.Answer u time number taken) took g c
-      ∙ heard_counted len x.actor t s (journey line t s) v none (msg.Answer u time number taken)
-      ∙ rw its (answered_counted number taken v none)
-      ∙ ap (λ (n : ℕ). if nat_lt v.counted number && nat_le number n then number else v.counted) (issued_is line t s)
-
-  -- no authority of the train
-  pub account_quiet : NoAuth t x.issued → account line t (x ∷ s) ≡ acts (seg_len line) t x s (journey line t s) (account line t s)
-  account_quiet quiet = account_next line t x s ∙ all_quiet len (journey line t s) t x.issued account_taken quiet
-
-  module _ (u : TrainId) (number : ℕ) (a : Authority) (issued : x.issued ≡ (0, msg.Auth u number a.mark a.path) ∷ []) (its : nat_eq u.0 t ≡ true) where
-    issued_one : account line t (x ∷ s) ≡ issues (seg_len line) (journey line t s) number a (acts (seg_len line) t x s (journey line t s) (account line t s))
-    issued_one = account_next line t x s ∙ all_one len (journey line t s) t x.issued u number a account_taken issued its
-
-    -- one that was issued before
-    pub account_again : number ≤ (account line t s).issued → account line t (x ∷ s) ≡ acts (seg_len line) t x s (journey line t s) (account line t s)
-    account_again h = let c = taken_counts.issued in issued_one ∙ issues_again len (journey line t s) number a account_taken (omega (arith, h, c))
-
-    -- a further one, which ends no nearer than the longest
-    pub account_longer : (account line t s).issued < number → end_of (seg_len line) (journey line t s) (acts (seg_len line) t x s (journey line t s) (account line t s)) ≤ authority_end (seg_len line) (journey line t s) a
-        → account line t (x ∷ s)
-        ≡ record (acts (seg_len line) t x s (journey line t s) (account line t s)) { issued = number; reads = with_at number (Some a) (acts (seg_len line) t x s (journey line t s) (account line t s)).reads }
-    account_longer h far = let c = taken_counts.issued in issued_one ∙ issues_longer len (journey line t s) number a account_taken (omega (arith, h, c)) far
+-- no answer takes a shrink where none is unanswered
+pub none_taken : (t : ℕ) (v : Account) (took : Option (ℕ × Msg)) → v.shrink ≡ 0 → takes_some t v took ≡ false
+none_taken t v None none = refl
+none_taken t v (Some (from, msg.Answer u time number taken)) none = grind (arith, nat_tests)
+none_taken t v (Some (from, _)) none = refl

@@ -4,4 +4,3 @@ pub mod One_route
 pub mod First_steps
 pub mod Journeys_stay
 pub mod Head_on
-pub mod Accepted

@@ -3,6 +3,7 @@
 use Rattle.std.proofs.Common.{◌≡◌, ℕ, ◌+◌, ◌<◌, ◌≤◌, List, [], ◌∷◌, ◌++◌, length, take, Option, Some, None, true, false, ◌&&◌, refl, sym, ap, subst, ◌∙◌, arith}
 use Rattle.std.proofs.lemmas.Bool.Decides.{nat_tests}
 use Rattle.std.proofs.lemmas.List.{length-append}
+use Rattle.std.proofs.lemmas.Option.{same_Some}
 use Rattle.std.specs.Prelude.{nat_le, nat_lt, is_some}
 use Rattle.std.specs.List.{list_all}
 use Rattle.std.proofs.lemmas.Bool.{and_parts}
@@ -17,7 +18,7 @@ use Rattle.definitions.specs.Story.{Story}
 use Rattle.definitions.specs.World.{entered, head, Authority, HeldPath, route, authority_end, entry_authority, held_end, limit_place, journey}
 use Rattle.definitions.specs.Control.{controls, last_issued}
 use Rattle.definitions.specs.Farther.{end_or_0, route_or_none}
-use Rattle.definitions.specs.Longest.{longest_end, longest_route}
+use Rattle.definitions.specs.Longest.{longest_end, is_pending, shrink_place, longest_route}
 use Rattle.definitions.specs.Zones.{zone_id}
 use Rattle.way_laws.proofs.Cut_front.{last_place, place_after, last_after, cut_few, cut_whole, total_append}
 use Rattle.motion_laws.proofs.Motion.{Motion}
@@ -154,9 +155,23 @@ module _ (line : Line) (t : ℕ) (s : Story) (k : Authorized line t s) (controll
       let f = cut_few (seg_len line) (longest_route line t s) (head t s) in
       omega (arith, e, f)
 
-  -- the last number ends where the longest does
-  pub last_end : end_read line t s (last_issued t s) ≡ longest_end line t s
-  last_end = ap (end_or_0 (seg_len line) (journey line t s)) c.last_is ∙ sym newest_end
+  -- the last number ends where the longest does, where no shrink is unanswered
+  pub last_end : is_pending line t s ≡ false → end_read line t s (last_issued t s) ≡ longest_end line t s
+  last_end idle = ap (end_or_0 (seg_len line) (journey line t s)) (c.top idle) ∙ sym newest_end
+
+  -- a shrink that is unanswered ends before it
+  pub shrink_before : is_pending line t s ≡ true → shrink_place line t s < longest_end line t s
+  shrink_before y =
+      let g = c.shrink y in
+      let near = g.nearer in
+      let e = ap (end_or_0 (seg_len line) (journey line t s)) g.shorter_is in
+      omega (arith, near, e)
+
+  -- before the train comes on the longest is over the portal segment
+  pub portal_end : entered t s ≡ false → longest_end line t s ≡ seg_len line (k.controlled controlled).step.seg.0
+  portal_end off =
+      let f = (c.early off).1 in
+      newest_end ∙ first_end line t s (journey line t s) c.newest f ∙ ap (λ (st : DirSeg). seg_len line st.seg.0) (same_Some f.step c.step (sym f.first ∙ c.first))
 
   -- an authority that ends where the longest does has its route
   pub longest_on : (a : Authority) → AuthorityIs line t s a → longest_end line t s ≡ authority_end (seg_len line) (journey line t s) a → longest_route line t s ≡ route (journey line t s) a

@@ -46,6 +46,7 @@ module _ (line : Line) (es : List Event) (p : Parts) (u : Tally) (zone : ZoneKep
       id = refines.id;
       time = refines.clock;
       holds = refines.holds;
+      closed = refines.closed;
       envelopes = λ t set h. shows_envelope t (find_controlled t zone.plain.trains) set refl h;
     }
 

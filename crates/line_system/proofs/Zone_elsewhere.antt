@@ -8,7 +8,7 @@ use Rattle.list_laws.proofs.By_test.{by_test}
 use Rattle.track_points.specs.declared.ids.DirSeg.{DirSeg}
 use Rattle.track_points.specs.declared.ids.TrainId.{TrainId}
 use Rattle.definitions.specs.declared.event.Event.{Event}
-use Rattle.definitions.specs.declared.event.Event.TheVariants.{Entry, Enter, Ask, Report, Time, Close, Open, Take, Noise}
+use Rattle.definitions.specs.declared.event.Event.TheVariants.{Entry, Enter, Ask, Report, Time, Close, Open, Shorten, Take, Noise}
 use Rattle.definitions.specs.declared.message.Msg.{Msg}
 use Rattle.definitions.specs.declared.message.Msg.TheVariants as msg
 use Rattle.definitions.specs.declared.message.Order.TheVariants as orders
@@ -160,6 +160,9 @@ module _ (line : Line) (one : IsLineOfOneZone line) where
   addressed_next s (Open seg) h a =
       let m = msg.Order (clock s) (orders.Open seg) in
       own (Open seg) (telling (zone_of line seg.0) m) (ordered seg.0 m h)
+  addressed_next s (Shorten z t st off) h a =
+      let m = msg.Order (clock s) (orders.Short t st off) in
+      own (Shorten z t st off) (telling z.0 m) (told z.0 m (and_parts (has_zone line z.0) _ h).0)
   addressed_next s (Noise to from bytes) h a = own (Noise to from bytes) (hearing_noise to (frame_at bytes.items)) (subst (ToAll (zone_id line)) (sym (noise_issues to (frame_at bytes.items))) tt)
   addressed_next s e h a = own e nothing tt
 

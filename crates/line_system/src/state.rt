@@ -291,6 +291,11 @@ impl State {
                 line.has_zone(*zone) && (train.0 == 0 || self.is_declared(*train))
             }
             Event::Close(seg) | Event::Open(seg) => line.has_segment(*seg),
+            Event::Shorten(zone, train, step, off) => {
+                line.has_zone(*zone)
+                    && (self.is_declared(*train)
+                        && (is_on_line(line, *step) && is_ranged(1, 10_000_000, *off)))
+            }
             Event::Take(to, from, _) => is_link(line, *to, *from),
             Event::Deliver(to) => is_actor(line, *to),
             Event::Noise(to, from, bytes) => {

@@ -9,12 +9,12 @@ use Rattle.definitions.specs.Story.{Story, sent}
 use Rattle.definitions.specs.World as world
 use Rattle.definitions.specs.World.{elapsed, clock, Facts, facts_of, is_declared, first_entry, entered, moved, head, journey, HeldPath, entry_authority, limit_place, last_number, last_taken}
 use Rattle.definitions.specs.Premises.{head_offset}
-use Rattle.definitions.specs.Control.{known_trains, known_facts, now_of, last_issued}
+use Rattle.definitions.specs.Control.{known_trains, known_train, known_facts, now_of, last_issued}
 use Rattle.definitions.specs.Account.{Account, shrink_end}
 use Rattle.definitions.specs.Fold.{account}
 use Rattle.definitions.specs.Longest.{counted, longest_route}
 use Rattle.definitions.specs.Fronts.{possible_front, least_rear, greatest_front, report_time}
-use Rattle.definitions.specs.Authority.{way, held}
+use Rattle.definitions.specs.Authority.{way, way_start, held}
 use Rattle.definitions.specs.Closures.{is_closed}
 use Rattle.definitions.specs.Steps.{sender_of}
 use Rattle.plain_state.specs.declared.Head.{Head}
@@ -22,7 +22,7 @@ use Rattle.plain_state.specs.declared.Pace.{Pace}
 use Rattle.onboard.specs.declared.onboard.Onboard.{Onboard}
 use Rattle.onboard.specs.Decision.{path_mm}
 use Rattle.plain_state.specs.declared.WorldTrain.{WorldTrain}
-use Rattle.plain_state.specs.declared.Shrink.{Shrink}
+use Rattle.authority_ledger.specs.declared.ledger.Shrink.{Shrink}
 use Rattle.plain_state.specs.declared.Controlled.{Controlled}
 use Rattle.way_path.specs.Ways.{plain_way, with_end}
 use Rattle.plain_state.specs.World.{find_train, paced}
@@ -78,9 +78,6 @@ world_train line t s =
 -- shrink that is not answered. The
 -- fronts are places on the way, which begins where the steps behind the rear end.
 
-abbrev pub way_start : Line → ℕ → Story → PlainWay → ℕ
-way_start line t s way_ = total (seg_len line) (take way_.mark (longest_route line t s))
-
 -- the unanswered shrink, on a way that begins at a place
 abbrev pub pending_of : Lengths → List DirSeg → ℕ → Account → Option Shrink
 pending_of len steps start v = if nat_lt 0 v.shrink then Some (record { number = v.shrink; end = shrink_end len steps v - start }) else None
@@ -99,9 +96,12 @@ zone_train_of line z t s (Some way_) = Some (record {
     at = now_of z s;
   };
   report = report_time line z t s;
-  last = last_issued t s;
-  answered = counted line t s;
-  pending = pending_of (seg_len line) (journey line t s) (way_start line t s way_) (account line t s);
+  equipped = (known_train z t s).equipped;
+  ledger = record {
+    last = last_issued t s;
+    answered = counted line t s;
+    pending = pending_of (seg_len line) (journey line t s) (way_start line t s way_) (account line t s);
+  };
 })
 
 abbrev pub zone_train_at : Line → ℕ → ℕ → Story → Option Controlled

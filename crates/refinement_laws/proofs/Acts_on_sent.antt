@@ -6,9 +6,11 @@ use Rattle.std.proofs.lemmas.List.{length-take-le, length-append}
 use Rattle.std.specs.Prelude.{nat_eq, nat_le, nat_lt, is_some, slice_get}
 use Rattle.std.specs.List.{list_all}
 use Rattle.list_laws.proofs.By_test.{eq_self, by_test}
+use Rattle.track_points.specs.declared.ids.Dir.{Dir}
+use Rattle.track_points.specs.declared.ids.Dir.TheVariants.{Up, Down}
 use Rattle.track_points.specs.declared.ids.DirSeg.{DirSeg}
 use Rattle.track_points.specs.declared.path.Path.{Path}
-use Rattle.track_points.specs.Points.{Lengths, steps_to}
+use Rattle.track_points.specs.Points.{Lengths, dir_eq, step_eq, steps_to}
 use Rattle.definitions.specs.declared.message.Msg.{Msg}
 use Rattle.definitions.specs.declared.message.Msg.TheVariants as msg
 use Rattle.definitions.specs.declared.message.Order.{Order}
@@ -32,17 +34,22 @@ use Rattle.plain_state.specs.Refinement.{mm_of_entry, head_of, pace_of, onboard_
 use Rattle.event_laws.proofs.Entered_same.{number_most}
 use Rattle.event_laws.proofs.Issued_all.{AllIssued, issued_all}
 use Rattle.way_laws.proofs.Line_builds.{portal_on_line}
-use Rattle.invariant_laws.proofs.One_route.{path_parts, numbered_controls}
-use Rattle.invariant_laws.proofs.Head_on.{steps_few}
-use Rattle.invariant_laws.proofs.Accepted.{step_self}
+use Rattle.invariant_laws.proofs.One_route.{path_parts, numbered_controls, kept_cut, journey_few}
 use Rattle.way_laws.proofs.Between_points.{between_mark, between_steps}
-use Rattle.invariant_laws.proofs.Invariant.{path_fits, AuthorityIs, FirstIs, AuthIs, AuthTrue, RequestTrue, Invariant}
+use Rattle.invariant_laws.proofs.Invariant.{path_fits, IsPath, FirstIs, AuthIs, AuthTrue, RequestTrue, Invariant}
 use Rattle.plain_state.proofs.Found_changed.{all_found}
 use Rattle.refinement_laws.proofs.The_zone.{the_zone}
 use Rattle.invariant_laws.proofs.Zone_only.{zone_is}
 use Rattle.refinement_laws.proofs.Way_of.{way_of}
 use Rattle.refinement_laws.proofs.Accepts_now.{range_of}
 use Rattle.refinement_laws.proofs.Order_true.{IsOnLine, OrderTrue}
+
+step_self : (st : DirSeg) → step_eq st st ≡ true
+step_self st = rw (eq_self st.seg.0) (same st.dir)
+  where
+    same : (d : Dir) → dir_eq d d ≡ true
+    same Up = refl
+    same Down = refl
 
 -- The marks of authorities.
 module _ (line : Line) (s : Story) (p : Plain) (one : IsLineOfOneZone line) (k : Refines line s p) (invariant : (t : ℕ) → Invariant line t s) where
@@ -74,12 +81,15 @@ module _ (line : Line) (s : Story) (p : Plain) (one : IsLineOfOneZone line) (k :
       let m = own.marks t _ (found_train t c) in
       omega (arith, e, a, l, m)
 
-  pub marks_few : (t : ℕ) (a : Authority) → AuthorityIs line t s a → controls (zone_id line) t s ≡ true → a.mark + length a.path.steps.items ≤ 24 * length s + 1
+  -- a path that begins on the journey has a few more
+  pub marks_few : (t : ℕ) (a : Authority) → IsPath line t s a → controls (zone_id line) t s ≡ true → a.mark + length a.path.steps.items ≤ 24 * length s + 24
   marks_few t a is c =
-      let w = way_of line t s one.valid (invariant t) c in
       let n = way_steps t c in
-      let f = steps_few line t s (invariant t).authorized (invariant t).motion c a is in
-      omega (arith, f, n)
+      let whole = ap (λ (xs : List DirSeg). length xs) (kept_cut line t s (invariant t).authorized c) in
+      let few = journey_few line t s (invariant t).authorized c in
+      let mark = is.mark in
+      let short = (path_parts line a.path is.fits).few in
+      omega (arith, n, whole, few, mark, short)
 
   -- The world.
 
@@ -123,8 +133,8 @@ module _ (line : Line) (s : Story) (p : Plain) (one : IsLineOfOneZone line) (k :
         let n : number ≤ last_issued t s = rw e at most in
         let b = a.positive in
         let c = numbered_controls line t s (invariant t).authorized (omega (arith, n, b)) in
-        let few = marks_few t (record { mark = mark; path = path }) a.authority c in
-        rw (fitting path mark a.authority.fits (omega (arith, few, short)))
+        let few = marks_few t (record { mark = mark; path = path }) a.path c in
+        rw (fitting path mark a.path.fits (omega (arith, few, short)))
         (ap (λ (x : Option WorldTrain). train_acts_on len x number mark path) (k.trains t) ∙ acts_on t number mark path a (facts_of t s) refl)
     world_acts_on_sent from to j _ is = refl
 
@@ -140,18 +150,18 @@ module _ (line : Line) (s : Story) (p : Plain) (one : IsLineOfOneZone line) (k :
         let b = low t in
         let l : fresh_number (last_issued t s) ≡ true = grind (arith, nat_tests) in
         let n : fresh_number (counted line t s) ≡ true = grind (arith, nat_tests) in
-        let e1 : x.last ≡ last_issued t s = ap (λ (y : Option Controlled). last_or y) (sym h) in
-        let e2 : x.answered ≡ counted line t s = ap (λ (y : Option Controlled). answered_or y) (sym h) in
+        let e1 : x.ledger.last ≡ last_issued t s = ap (λ (y : Option Controlled). last_or y) (sym h) in
+        let e2 : x.ledger.answered ≡ counted line t s = ap (λ (y : Option Controlled). answered_or y) (sym h) in
         let q : fresh_mark x.way.mark ≡ true = grind (arith, nat_tests) in
         rw (e1, e2, l, n) q
       where
         last_or : Option Controlled → ℕ
         last_or None = 0
-        last_or (Some y) = y.last
+        last_or (Some y) = y.ledger.last
 
         answered_or : Option Controlled → ℕ
         answered_or None = 0
-        answered_or (Some y) = y.answered
+        answered_or (Some y) = y.ledger.answered
 
     fresh_trains : list_all fresh_train (p.zones (zone_id line)).trains ≡ true
     fresh_trains = all_found fresh_train (p.zones (zone_id line)).trains own.distinct (λ t x found.
@@ -160,7 +170,8 @@ module _ (line : Line) (s : Story) (p : Plain) (one : IsLineOfOneZone line) (k :
     fresh_taken : (from to j : ℕ) (m : Msg) → slice_get (sent from to s) j ≡ Some m → fresh_message m ≡ true
     fresh_taken from to j (msg.Answer u time number taken) is =
         let r = issued_all (RequestTrue line u.0 s) from to s j (msg.Answer u time number taken) (invariant u.0).authorized.requests is (eq_self u.0) in
-        let n = r.0 in
+        let n = r.most in
+        let c = (invariant u.0).authorized.last_most in
         let b = low u.0 in
         grind (arith, nat_tests)
     fresh_taken from to j (msg.Auth u number mark path) is =
@@ -171,7 +182,7 @@ module _ (line : Line) (s : Story) (p : Plain) (one : IsLineOfOneZone line) (k :
         let n : number ≤ last_issued t s = rw e at most in
         let b = a.positive in
         let c = numbered_controls line t s (invariant t).authorized (omega (arith, n, b)) in
-        let few = marks_few t (record { mark = mark; path = path }) a.authority c in
+        let few = marks_few t (record { mark = mark; path = path }) a.path c in
         let l = low t in
         let x : fresh_number number ≡ true = grind (arith, nat_tests) in
         let y : fresh_mark mark ≡ true = grind (arith, nat_tests) in

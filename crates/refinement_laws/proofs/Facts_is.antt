@@ -93,7 +93,7 @@ no_entry_authority line t s invariant h = none (entry_authority t s) refl
   where
     none : (a : Option HeldPath) → entry_authority t s ≡ a → a ≡ None
     none None e = refl
-    none (Some a) e = absurd (let c : true ≡ false = sym ((invariant.authorized.entry a e).authority.declared) ∙ h in cc)
+    none (Some a) e = absurd (let c : true ≡ false = sym ((invariant.authorized.entry a e).path.declared) ∙ h in cc)
 
 pub no_number : (line : Line) (t : ℕ) (s : Story) → Invariant line t s → is_declared t s ≡ false → last_number t s ≡ 0
 no_number line t s invariant h =

@@ -9,19 +9,19 @@ use Rattle.definitions.specs.Track.{Line, seg_len, layout, owner}
 use Rattle.definitions.specs.Rules.{is_line}
 use Rattle.definitions.specs.Ways.{PlainWay}
 use Rattle.definitions.specs.Story.{Story}
-use Rattle.definitions.specs.Control.{controls, known_facts, now_of, last_issued}
-use Rattle.definitions.specs.Longest.{counted, longest_end, longest_route}
+use Rattle.definitions.specs.Control.{controls, known_facts, known_train, now_of}
+use Rattle.definitions.specs.Longest.{longest_end, longest_route}
 use Rattle.definitions.specs.Fronts.{possible_front, report_time}
-use Rattle.definitions.specs.Authority.{way, way_has, held}
+use Rattle.definitions.specs.Authority.{way, way_start, way_has, held}
 use Rattle.way_path.specs.Ways.{plain_way}
 use Rattle.plain_state.specs.declared.Controlled.{Controlled}
 use Rattle.plain_state.specs.Zone.{find_controlled, hold_has}
 use Rattle.definitions.specs.Zones.{zone_id}
-use Rattle.plain_state.specs.Refinement.{way_start, zone_train_of, zone_train}
+use Rattle.plain_state.specs.Refinement.{zone_train_of, zone_train}
 use Rattle.way_laws.proofs.Between_points.{begin_of, behind_from}
 use Rattle.invariant_laws.proofs.Invariant.{Invariant}
 use Rattle.refinement_laws.proofs.Facts_is.{way_is_known}
-use Rattle.refinement_laws.proofs.Zone_kept.{kept_train, zone_kept}
+use Rattle.refinement_laws.proofs.Zone_kept.{ledger_of, kept_train, zone_kept}
 
 hold_of : (line : Line) (t : ℕ) (s : Story) (w : Option PlainWay) (point : Point) → hold_has line (zone_id line) (zone_train_of line (zone_id line) t s w) point ≡ (nat_eq (owner line point) (zone_id line) && way_has (layout line) w point)
 hold_of line t s None point = by_test (nat_eq (owner line point) (zone_id line)) (λ a. rw a refl) (λ b. rw b refl)
@@ -36,8 +36,8 @@ module _ (line : Line) (s : Story) (valid : is_line line ≡ true) (trains : Lis
   found_controls t x found = sym (way_is_known line (zone_id line) t s) ∙ some_of line t s (way line (zone_id line) t s) x (sym (ways t) ∙ found)
 
   pub found_kept : (t : ℕ) (x : Controlled) (c : controls (zone_id line) t s ≡ true) → find_controlled t trains ≡ Some x
-      → kept_train (seg_len line) t (known_facts (zone_id line) t s) (longest_route line t s) ((invariant t).fronts c).lo ((invariant t).fronts c).hi (longest_end line t s)
-      (now_of (zone_id line) s) (report_time line (zone_id line) t s) (last_issued t s) (counted line t s) ≡ x
+      → kept_train (seg_len line) t (known_train (zone_id line) t s) (longest_route line t s) ((invariant t).fronts c).lo ((invariant t).fronts c).hi (longest_end line t s)
+      (now_of (zone_id line) s) (report_time line (zone_id line) t s) (ledger_of line t s) ≡ x
   found_kept t x c found = same _ x (sym (zone_kept line t s valid (invariant t) c) ∙ (sym (ways t) ∙ found))
     where
       same : (a b : Controlled) → Some a ≡ Some b → a ≡ b

@@ -1,4 +1,5 @@
 pub mod Find_change
+pub mod Ledger_told
 pub mod The_zone
 pub mod Way_of
 pub mod Facts_is
@@ -25,12 +26,19 @@ pub mod Step_refined
 pub mod World_take_refined
 pub mod Mark_is
 pub mod Zone_moves
+pub mod Account_heard
 pub mod Zone_still
 pub mod Narrowed_is
 pub mod Report_found
 pub mod Kept_lengthened
+pub mod Kept_answered
+pub mod Kept_short
 pub mod Quiet_moves
+pub mod One_issued
+pub mod Again_moves
 pub mod Ask_moves
+pub mod Answered_moves
+pub mod Short_moves
 pub mod Entered_moves
 pub mod Answer_now
 pub mod Take_moves

@@ -10,7 +10,7 @@ use Rattle.definitions.specs.Track.{Line, seg_len, last_step, led}
 use Rattle.definitions.specs.Rules.{is_line}
 use Rattle.definitions.specs.Premises.{on_line}
 use Rattle.definitions.specs.Story.{Transition, Story, ever}
-use Rattle.definitions.specs.World.{first_entry, enters, entered, moved, head, journey, limit_held, limit_place, last_number, last_taken}
+use Rattle.definitions.specs.World.{first_entry, enters, entered, moved, head, journey, limit_held, held_end, limit_place, last_taken}
 use Rattle.definitions.specs.Longest.{longest_route}
 use Rattle.plain_state.specs.World.{moved_on}
 use Rattle.plain_state.specs.Refinement.{head_of, pace_of}
@@ -18,10 +18,9 @@ use Rattle.way_laws.proofs.Cut_front.{cut_all}
 use Rattle.event_laws.proofs.Facts_stay.{entered_stays}
 use Rattle.motion_laws.proofs.Motion.{Motion, head_next}
 use Rattle.journey_laws.proofs.Journey_track.{journey_ends, journey_led}
-use Rattle.invariant_laws.proofs.Invariant.{end_read, Invariant}
+use Rattle.invariant_laws.proofs.Invariant.{Invariant}
 use Rattle.invariant_laws.proofs.One_route.{on_controls}
-use Rattle.invariant_laws.proofs.First_steps.{off_journey, controlled_some, controlled_reaches, controlled_first}
-use Rattle.front_laws.proofs.Route_goes_on.{read_stays}
+use Rattle.invariant_laws.proofs.First_steps.{off_journey, controlled_some, controlled_reaches, controlled_first, end_same}
 use Rattle.refinement_laws.proofs.Head_moved.{head_at, head_moved}
 
 -- where the head of a train on the line is
@@ -55,14 +54,14 @@ head_moves line t x s valid invariant after on off =
     ∙ ap (moved_on line mm) (sym (head_found line t s on)))))
 
 -- the limit stays where it was
-pub limit_same : (line : Line) (t : ℕ) (x : Transition) (s : Story) → (invariant : Invariant line t s) → (after : Invariant line t (x ∷ s)) → entered t s ≡ true → head t s ≤ head t (x ∷ s)
-    → last_number t (x ∷ s) ≡ last_number t s → limit_place line t (x ∷ s) ≡ limit_place line t s
-limit_same line t x s invariant after on heads last =
+pub limit_same : (line : Line) (t : ℕ) (x : Transition) (s : Story) → (invariant : Invariant line t s) → entered t s ≡ true → head t s ≤ head t (x ∷ s)
+    → limit_held line t (x ∷ s) ≡ limit_held line t s → limit_place line t (x ∷ s) ≡ limit_place line t s
+limit_same line t x s invariant on heads held =
+    let len = seg_len line in
     let first = controlled_first line t s invariant.authorized (on_controls line t s invariant.authorized on) invariant.motion x heads in
-    (after.authorized.limit (entered_stays t x s on)).number
-    ∙ (ap (λ (n : ℕ). end_read line t (x ∷ s) n) last
-    ∙ (read_stays line t x s invariant.authorized first (last_number t s) invariant.authorized.last_most
-    ∙ sym ((invariant.authorized.limit on).number)))
+    let l = invariant.authorized.limit on in
+    ap (held_end len (journey line t (x ∷ s))) (held ∙ l.is)
+    ∙ (end_same line t x s first l.held.authority l.authority.mark ∙ sym (ap (held_end len (journey line t s)) l.is))
 
 -- a train that has not come on holds no limit
 pub off_limit : (line : Line) (t : ℕ) (s : Story) → entered t s ≡ false → limit_held line t s ≡ None

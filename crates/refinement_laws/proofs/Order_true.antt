@@ -1,9 +1,9 @@
--- Each order that is issued is on a segment of the line.
+-- Each order on a segment that is issued is on one of the line.
 use Rattle.std.proofs.Common.{◌≡◌, ℕ, zero, suc, List, [], ◌∷◌, Option, Some, None, true, refl}
 use Rattle.track_points.specs.declared.ids.TrainId.{TrainId}
 use Rattle.track_points.specs.declared.ids.DirSeg.{DirSeg}
 use Rattle.definitions.specs.declared.event.Event.{Event}
-use Rattle.definitions.specs.declared.event.Event.TheVariants.{Entry, Enter, Ask, Report, Time, Close, Open, Take, Noise}
+use Rattle.definitions.specs.declared.event.Event.TheVariants.{Entry, Enter, Ask, Report, Time, Close, Open, Shorten, Take, Noise}
 use Rattle.definitions.specs.declared.message.Msg.{Msg}
 use Rattle.definitions.specs.declared.message.Msg.TheVariants as msg
 use Rattle.definitions.specs.declared.message.Order.{Order}
@@ -58,6 +58,7 @@ effects_ordered line s (Report t z step offset whole) h = (tt, tt)
 effects_ordered line s (Time z t) h = (tt, tt)
 effects_ordered line s (Close seg) h = (h, tt)
 effects_ordered line s (Open seg) h = (h, tt)
+effects_ordered line s (Shorten z t st off) h = (tt, tt)
 effects_ordered line s (Noise to from bytes) h = none_ordered line (hearing_noise to (frame_at bytes.items)).issued (noise_issues to (frame_at bytes.items))
 effects_ordered line s (Take to from number) h = taking_ordered line s (Take to from number) to from (message from to number s)
 effects_ordered line s _ h = tt

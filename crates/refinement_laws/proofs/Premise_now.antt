@@ -12,7 +12,7 @@ use Rattle.track_points.specs.declared.ids.TrainId.{TrainId}
 use Rattle.track_points.specs.Points.{step_eq}
 use Rattle.envelope.specs.Fronts.{farthest_move}
 use Rattle.definitions.specs.declared.event.Event.{Event}
-use Rattle.definitions.specs.declared.event.Event.TheVariants.{Train, Entry, Enter, Ask, Step, Report, Time, Take, Noise}
+use Rattle.definitions.specs.declared.event.Event.TheVariants.{Train, Entry, Enter, Ask, Step, Report, Time, Shorten, Take, Noise}
 use Rattle.definitions.specs.declared.message.Msg.{Msg}
 use Rattle.definitions.specs.Track.{Line, ranged, has_zone, begins_at_portal, last_step}
 use Rattle.definitions.specs.Numbers.{least}
@@ -40,6 +40,7 @@ module _ (line : Line) (s : Story) (p : Plain) (k : Refines line s p) (invariant
   built_now (Step ms moves) = ap (λ (f : TrainId × ℕ → Bool). ranged 1 60000 ms && (ascending 0 moves.items && list_all f moves.items)) (fun_ext known_now)
   built_now (Report u z step offset whole) = ap (λ (b : Bool). b && (has_zone line z.0 && (on_line line step && (le_z (pos 0 -ℤ pos 1000000) offset && le_z offset (pos 11000000))))) (sym (declared_is line s p k invariant u.0))
   built_now (Time z u) = ap (λ (b : Bool). has_zone line z.0 && (nat_eq u.0 0 || b)) (sym (declared_is line s p k invariant u.0))
+  built_now (Shorten z u st off) = ap (λ (b : Bool). has_zone line z.0 && (b && (on_line line st && ranged 1 10000000 off))) (sym (declared_is line s p k invariant u.0))
   built_now _ = refl
 
   pub too_many_now : (e : Event) → too_many s e ≡ plain_too_many p e

@@ -8,7 +8,7 @@ use Rattle.std.specs.List.{list_all}
 use Rattle.std.proofs.lemmas.Bool.{and_parts, not-true}
 use Rattle.list_laws.proofs.By_test.{eq_self, by_test}
 use Rattle.definitions.specs.declared.event.Event.{Event}
-use Rattle.definitions.specs.declared.event.Event.TheVariants.{Train, Entry, Enter, Ask, Step, Report, Time, Close, Open, Take}
+use Rattle.definitions.specs.declared.event.Event.TheVariants.{Train, Entry, Enter, Ask, Step, Report, Time, Close, Open, Shorten, Take}
 use Rattle.definitions.specs.declared.message.Msg.{Msg}
 use Rattle.definitions.specs.declared.message.Msg.TheVariants as msg
 use Rattle.definitions.specs.declared.message.Order.TheVariants as orders
@@ -75,11 +75,16 @@ module _ (line : Line) (s : Story) (p : Plain) (one : IsLineOfOneZone line) (sho
       (λ on.
       let auth : AuthIs line t s number (record { mark = mark; path = path }) = issued_all (AuthTrue line t s) from 0 s j (msg.Auth u number mark path) (invariant t).authorized.auths is (eq_self t) in
       let declared = (invariant t).motion.declared on in
-      ap (λ (ms : ℕ). taking_auth ms (entered t s) (last_number t s) (last_taken line t s) takes_it u from number) (sym k.time)
-      ∙ (ap (λ (b : Bool). taking_auth p.world.clock b (last_number t s) (last_taken line t s) takes_it u from number) (sym on_seen)
-      ∙ (ap (λ (n : ℕ). taking_auth p.world.clock seen n (last_taken line t s) takes_it u from number) (sym (number_is line s p k invariant t))
-      ∙ (ap (λ (b : Bool). taking_auth p.world.clock seen last b takes_it u from number) (sym (taken_is line s p k invariant t declared))
-      ∙ ap (λ (b : Bool). taking_auth p.world.clock seen last took b u from number) (sym (accepts_now line t s (invariant t) on mark path auth.authority p k (told.paced t)))))))
+      -- its decision on a number that is not new is not told
+      by_test (nat_lt (last_number t s) number)
+      (λ fresh.
+      ap (λ (b : Bool). taking_auth (clock s) (entered t s) (last_number t s) (last_taken line t s) b u from number)
+      (sym (accepts_now line t s (invariant t) on mark path (auth.ahead (grind (arith, nat_tests))) p k (told.paced t))))
+      (λ old. rw old refl)
+      ∙ (ap (λ (ms : ℕ). taking_auth ms (entered t s) (last_number t s) (last_taken line t s) found u from number) (sym k.time)
+      ∙ (ap (λ (b : Bool). taking_auth p.world.clock b (last_number t s) (last_taken line t s) found u from number) (sym on_seen)
+      ∙ (ap (λ (n : ℕ). taking_auth p.world.clock seen n (last_taken line t s) found u from number) (sym (number_is line s p k invariant t))
+      ∙ ap (λ (b : Bool). taking_auth p.world.clock seen last b found u from number) (sym (taken_is line s p k invariant t declared))))))
       (λ off.
       ap (λ (b : Bool). taking_auth (clock s) b (last_number t s) (last_taken line t s) takes_it u from number) off
       ∙ sym (ap (λ (b : Bool). taking_auth p.world.clock b last took found u from number) (on_seen ∙ off)))
@@ -159,6 +164,7 @@ module _ (line : Line) (s : Story) (p : Plain) (one : IsLineOfOneZone line) (sho
   effect_now (Time z u) a after = ap (λ (ms : ℕ). telling z.0 (msg.Time ms u)) (sym k.time)
   effect_now (Close seg) a after = ap (λ (ms : ℕ). telling (zone_of line seg.0) (msg.Order ms (orders.Close seg))) (sym k.time)
   effect_now (Open seg) a after = ap (λ (ms : ℕ). telling (zone_of line seg.0) (msg.Order ms (orders.Open seg))) (sym k.time)
+  effect_now (Shorten z u st off) a after = ap (λ (ms : ℕ). telling z.0 (msg.Order ms (orders.Short u st off))) (sym k.time)
   effect_now (Take to from number) a after =
       (taken_follows to from number a after).effect ∙ ap (λ (xs : List Msg). taken_effect line p to from (slice_get xs (number - 1))) (sym (k.links from to a.form))
   effect_now _ a after = refl

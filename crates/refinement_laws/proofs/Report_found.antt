@@ -14,14 +14,15 @@ use Rattle.definitions.specs.Track.{Line, seg_len}
 use Rattle.definitions.specs.Numbers.{last}
 use Rattle.definitions.specs.Story.{Transition, Story}
 use Rattle.definitions.specs.Farther.{on_way}
-use Rattle.definitions.specs.Control.{controls, known_facts, now_with, last_issued}
-use Rattle.definitions.specs.Longest.{counted, longest_end, longest_route}
+use Rattle.definitions.specs.Control.{controls, known_train, known_facts, now_with}
+use Rattle.definitions.specs.Longest.{longest_end, longest_route}
 use Rattle.definitions.specs.Fronts.{possible_front, fronts_behind, is_used, rear_of, report_time}
 use Rattle.definitions.specs.Steps.{Effect, nothing, place_line, zone_report}
 use Rattle.definitions.specs.Safe.{IsLineOfOneZone}
+use Rattle.authority_ledger.specs.declared.ledger.Ledger.{Ledger}
 use Rattle.way_path.specs.Ways.{plain_way}
 use Rattle.plain_state.specs.declared.Controlled.{Controlled}
-use Rattle.plain_state.specs.Zone.{find_controlled, change_controlled, has_mark, uses_mark, narrowed_by, cut_at_rear, check, reported_by, place_of_train, place_found, grown_train}
+use Rattle.plain_state.specs.Zone.{find_controlled, change_controlled, has_mark, uses_mark, narrowed_by, cut_at_rear, checked, check, reported_by, place_of_train, place_found, grown_train}
 use Rattle.definitions.specs.Zones.{zone_id}
 use Rattle.plain_state.specs.Refinement.{zone_train}
 use Rattle.invariant_laws.proofs.Invariant.{Invariant}
@@ -32,8 +33,8 @@ use Rattle.plain_state.proofs.Found_changed.{mapped, found_changed, found_other}
 use Rattle.refinement_laws.proofs.Way_now.{Grown}
 use Rattle.refinement_laws.proofs.Way_of.{way_of}
 use Rattle.refinement_laws.proofs.Mark_is.{mark_is}
-use Rattle.refinement_laws.proofs.Zone_kept.{kept_train}
-use Rattle.refinement_laws.proofs.Narrowed_is.{shown_train, narrowed_is, place_is, cut_is}
+use Rattle.refinement_laws.proofs.Zone_kept.{ledger_of, kept_train}
+use Rattle.refinement_laws.proofs.Narrowed_is.{shown_train, narrowed_is, place_is, check_is, cut_is}
 use Rattle.event_laws.proofs.Issued_all.{NoAuth}
 use Rattle.refinement_laws.proofs.Zone_idle.{no_train}
 use Rattle.refinement_laws.proofs.Zone_moves.{zone_made}
@@ -68,7 +69,7 @@ module _ (line : Line) (z number : ℕ) (u : TrainId) (time mark : ℕ) (offset 
     k = (known_facts (zone_id line) t s).long
 
     abbrev grown : Controlled
-    grown = kept_train (seg_len line) t (known_facts (zone_id line) t s) (longest_route line t s) lo hi (longest_end line t s) (now_with (zone_id line) s r) (report_time line (zone_id line) t s) (last_issued t s) (counted line t s)
+    grown = kept_train (seg_len line) t (known_train (zone_id line) t s) (longest_route line t s) lo hi (longest_end line t s) (now_with (zone_id line) s r) (report_time line (zone_id line) t s) (ledger_of line t s)
 
     found_grown : find_controlled u.0 ways ≡ Some grown
     found_grown = g.found t ∙ grown_is line r s t one (invariant t) c
@@ -108,23 +109,30 @@ module _ (line : Line) (z number : ℕ) (u : TrainId) (time mark : ℕ) (offset 
 
     module _ (uses : is_used line (zone_id line) u.0 s (possible_front line (zone_id line) u.0 s) (msg.Report u time mark offset integrity) ≡ true) where
       abbrev shown : Controlled
-      shown = shown_train (seg_len line) t (known_facts (zone_id line) t s) (longest_route line t s) lo hi (longest_end line t s) (now_with (zone_id line) s r) (report_time line (zone_id line) t s) (last_issued t s) (counted line t s)
-          long_is.0 long_is.1 ordered within (way_of line t s one.valid (invariant t) c).room left.lo left.hi told
+      shown = shown_train (seg_len line) t (known_train (zone_id line) t s) (longest_route line t s) lo hi (longest_end line t s) (now_with (zone_id line) s r) (report_time line (zone_id line) t s) (ledger_of line t s)
+          long_is.0 long_is.1 ordered within (way_of line t s one.valid (invariant t) c).room left.lo left.hi told (ledger_of line t s)
 
       narrowed_now : narrowed_by (seg_len line) time mark offset integrity grown ≡ shown
       narrowed_now =
-          narrowed_is (seg_len line) t (known_facts (zone_id line) t s) (longest_route line t s) lo hi (longest_end line t s) (now_with (zone_id line) s r) (report_time line (zone_id line) t s) (last_issued t s) (counted line t s)
+          narrowed_is (seg_len line) t (known_train (zone_id line) t s) (longest_route line t s) lo hi (longest_end line t s) (now_with (zone_id line) s r) (report_time line (zone_id line) t s) (ledger_of line t s)
           long_is.0 long_is.1 ordered within (way_of line t s one.valid (invariant t) c).room time mark offset integrity (mark_used ∙ uses)
 
       narrower : (lo ≤ left.lo) × ((left.lo ≤ left.hi) × (left.hi ≤ hi))
       narrower = let n = fronts_kept line t s u time mark offset integrity ((invariant t).fronts c) uses in (n.least, (n.numbers.ordered, n.most))
 
+      -- the numbers after the check of the least front
+      abbrev checked_numbers : Ledger
+      checked_numbers = checked left.lo (ledger_of line t s).pending (ledger_of line t s)
+
       cut_now : reported_by (seg_len line) time mark offset integrity grown
-          ≡ kept_train (seg_len line) t (known_facts (zone_id line) t s) (longest_route line t s) left.lo left.hi (longest_end line t s) (now_with (zone_id line) s r) told (last_issued t s) (counted line t s)
+          ≡ kept_train (seg_len line) t (known_train (zone_id line) t s) (longest_route line t s) left.lo left.hi (longest_end line t s) (now_with (zone_id line) s r) told checked_numbers
       cut_now =
           ap (λ (y : Controlled). cut_at_rear (seg_len line) (check y)) narrowed_now
-          ∙ cut_is (seg_len line) t (known_facts (zone_id line) t s) (longest_route line t s) lo hi (longest_end line t s) (now_with (zone_id line) s r) (report_time line (zone_id line) t s) (last_issued t s) (counted line t s)
-          long_is.0 long_is.1 ordered within (way_of line t s one.valid (invariant t) c).room left.lo left.hi told narrower.0 narrower.1.0 narrower.1.1
+          ∙ (ap (λ (y : Controlled). cut_at_rear (seg_len line) y)
+          (check_is (seg_len line) t (known_train (zone_id line) t s) (longest_route line t s) lo hi (longest_end line t s) (now_with (zone_id line) s r) (report_time line (zone_id line) t s) (ledger_of line t s)
+          long_is.0 long_is.1 ordered within (way_of line t s one.valid (invariant t) c).room left.lo left.hi told (ledger_of line t s) narrower.0 narrower.1.0 narrower.1.1)
+          ∙ cut_is (seg_len line) t (known_train (zone_id line) t s) (longest_route line t s) lo hi (longest_end line t s) (now_with (zone_id line) s r) (report_time line (zone_id line) t s) (ledger_of line t s)
+          long_is.0 long_is.1 ordered within (way_of line t s one.valid (invariant t) c).room left.lo left.hi told checked_numbers narrower.0 narrower.1.0 narrower.1.1)
 
       place_now : place_of_train (seg_len line) (zone_id line) (narrowed_by (seg_len line) time mark offset integrity grown)
           ≡ place_line (seg_len line) (zone_id line) u (longest_route line u.0 s)
@@ -133,8 +141,8 @@ module _ (line : Line) (z number : ℕ) (u : TrainId) (time mark : ℕ) (offset 
       place_now =
           let n = (fronts_kept line t s u time mark offset integrity ((invariant t).fronts c) uses).numbers in
           ap (λ (y : Controlled). place_of_train (seg_len line) (zone_id line) y) narrowed_now
-          ∙ (place_is (seg_len line) t (known_facts (zone_id line) t s) (longest_route line t s) lo hi (longest_end line t s) (now_with (zone_id line) s r) (report_time line (zone_id line) t s) (last_issued t s) (counted line t s)
-          long_is.0 long_is.1 ordered within (way_of line t s one.valid (invariant t) c).room left.lo left.hi told narrower.0 narrower.1.0 narrower.1.1 (zone_id line)
+          ∙ (place_is (seg_len line) t (known_train (zone_id line) t s) (longest_route line t s) lo hi (longest_end line t s) (now_with (zone_id line) s r) (report_time line (zone_id line) t s) (ledger_of line t s)
+          long_is.0 long_is.1 ordered within (way_of line t s one.valid (invariant t) c).room left.lo left.hi told (ledger_of line t s) narrower.0 narrower.1.0 narrower.1.1 (zone_id line)
           ∙ (ap (λ (n : ℕ). place_line (seg_len line) (zone_id line) u (longest_route line t s) n left.hi) (sym n.rear)
           ∙ ap (λ (n : ℕ). place_line (seg_len line) (zone_id line) u (longest_route line t s) (rear_of line (zone_id line) t s (fronts_behind line (zone_id line) t s (possible_front line (zone_id line) t s) r)) n) (sym n.greatest)))
 

@@ -34,7 +34,7 @@ use Rattle.event_laws.proofs.Issued_all.{AllIn, NoAuth}
 use Rattle.invariant_laws.proofs.Invariant.{Invariant}
 use Rattle.refinement_laws.proofs.Find_change.{find_change, find_other, length_change}
 use Rattle.plain_state.proofs.Found_changed.{mapped}
-use Rattle.event_laws.proofs.Still_world.{heads_same, StillWorld, last_still, authority_still, facts_still, entry_still, undeclared_before, authority_stays, unasked_same, off_same, authorized_same, as_many, clock_still}
+use Rattle.event_laws.proofs.Still_world.{heads_same, StillWorld, last_still, limit_still, authority_still, facts_still, entry_still, undeclared_before, authority_stays, unasked_same, off_same, authorized_same, as_many, clock_still}
 use Rattle.refinement_laws.proofs.World_moves.{world_same, world_refined}
 use Rattle.refinement_laws.proofs.Head_moved.{head_at}
 use Rattle.refinement_laws.proofs.Train_made.{made, is_made, pace_still, taken_none}
@@ -93,7 +93,7 @@ module _ (line : Line) (t ms : ℕ) (u : TrainId) (a : Option ℕ) (s : Story) (
       let at_entry : head_at len (st ∷ []) f.long ≡ head_at_entry (first_entry t s) f.long =
       head_at_length line st f.long (omega (arith, long, room)) ∙ sym (ap (λ (y : Option DirSeg). head_at_entry y f.long) e.first.first) in
       let from : h.authority.path.from ≡ 0 = ap (λ (q : Path). q.from) e.first.path in
-      let fits = range_of line h.authority.path e.authority.fits in
+      let fits = range_of line h.authority.path e.path.fits in
       let limit_is = kept_end len (st ∷ []) h e.first.mark from fits in
       let limit2 : limit_place line t (x ∷ s) ≡ held_end len (st ∷ []) (Some h) = rw (journey_next, limit_next, held) refl in
       let room : mm_or_0 (mm_of_entry len (Some h)) - f.long ≡ limit_place line t (x ∷ s) - head t (x ∷ s) = omega (arith, limit_is, limit2, head_is, long) in
@@ -241,7 +241,7 @@ step_moved line t ms moves s one on invariant after =
     let mm = mm_of t moves.items in
     let last = last_still t x s refl refl in
     let head_now = head_stepped t ms moves s in
-    let limit = limit_same line t x s invariant after on (omega (arith, head_now)) last in
+    let limit = limit_same line t x s invariant on (omega (arith, head_now)) (limit_still line t x s refl refl) in
     let room : limit_place line t s - head t s - mm ≡ limit_place line t (x ∷ s) - head t (x ∷ s) = omega (arith, limit, head_now) in
     mapped_moved line ms (clock s + ms) t mm (facts_of t s) (first_entry t s) (sender_of (entry_authority t s)) (head_of line t s) (pace_of t s) (onboard_of line t s)
     ∙ is_made line t (x ∷ s) (sym (facts_still t x s refl)) (sym (entry_still t x s refl)) (sym (authority_still t x s refl)) (sym (head_moves line t x s one.valid invariant after on refl))

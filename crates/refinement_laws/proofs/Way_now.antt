@@ -5,22 +5,25 @@ use Rattle.std.specs.Prelude.{nat_eq, nat_le, nat_lt, is_some}
 use Rattle.std.specs.List.{list_any}
 use Rattle.list_laws.proofs.By_test.{by_test}
 use Rattle.track_points.specs.declared.ids.DirSeg.{DirSeg}
-use Rattle.track_points.specs.Points.{Point, Cell, some_below, path_has}
+use Rattle.track_points.specs.Points.{Lengths, Point, Cell, some_below, path_has}
 use Rattle.definitions.specs.Track.{Line, seg_len, layout, owner, zone_of}
 use Rattle.definitions.specs.Rules.{is_line}
 use Rattle.definitions.specs.Ways.{PlainWay}
 use Rattle.definitions.specs.Story.{Story}
 use Rattle.definitions.specs.Control.{controls, knows, knows_most, known_trains, last_issued}
-use Rattle.definitions.specs.Longest.{counted}
+use Rattle.definitions.specs.World.{journey}
+use Rattle.definitions.specs.Account.{Account}
+use Rattle.definitions.specs.Fold.{account}
+use Rattle.definitions.specs.Longest.{counted, is_pending}
 use Rattle.definitions.specs.Fronts.{report_time, silent_by}
-use Rattle.definitions.specs.Authority.{way, way_has, held, held_else, least_of, holder_of}
+use Rattle.definitions.specs.Authority.{way, way_start, way_has, held, held_else, least_of, holder_of}
 use Rattle.definitions.specs.Closures.{is_closed}
 use Rattle.definitions.specs.Limit.{Bars, reach_from, path_of, barring, limit}
 use Rattle.way_path.specs.Ways.{plain_way}
 use Rattle.plain_state.specs.declared.Controlled.{Controlled}
-use Rattle.plain_state.specs.Zone.{PlainZone, find_controlled, way_found, path_found, last_found, ready_found, silent_found, full, train_on, held_else_plain, closed_at, barring_plain, holder_plain, reach_plain, grown_train}
+use Rattle.plain_state.specs.Zone.{PlainZone, find_controlled, way_found, path_found, last_found, ready_found, pending_found, silent_found, full, train_on, held_else_plain, closed_at, barring_plain, holder_plain, reach_plain, grown_train}
 use Rattle.definitions.specs.Zones.{zone_id}
-use Rattle.plain_state.specs.Refinement.{ids, Distinct, zone_train_of, zone_train, ZoneRefines}
+use Rattle.plain_state.specs.Refinement.{ids, Distinct, pending_of, zone_train_of, zone_train, ZoneRefines}
 use Rattle.event_laws.proofs.Controls_same.{controls_knows}
 use Rattle.invariant_laws.proofs.Invariant.{Invariant}
 use Rattle.plain_state.proofs.Found_changed.{mapped, any_is, least_is, ids_length, found_mapped, ids_mapped, distinct_mapped}
@@ -43,6 +46,10 @@ grown_of line s y clock k = record {
 abbrev pub Shut : Line → Story → List Bool → Type 0
 Shut line s closed = (seg : ℕ) → nat_eq (zone_of line seg) (zone_id line) ≡ true → closed_at closed seg ≡ is_closed (zone_id line) seg s
 
+-- a shrink is kept while one is unanswered
+pending_is : (len : Lengths) (steps : List DirSeg) (start : ℕ) (v : Account) → is_some (pending_of len steps start v) ≡ nat_lt 0 v.shrink
+pending_is len steps start v = by_test (nat_lt 0 v.shrink) (λ y. rw y refl) (λ n. rw n refl)
+
 -- What is found of a train of the zone.
 module _ (line : Line) (t : ℕ) (s : Story) (clock : ℕ) where
   abbrev train_by : Option PlainWay → Option Controlled
@@ -61,10 +68,12 @@ module _ (line : Line) (t : ℕ) (s : Story) (clock : ℕ) where
   some_by (Some w) = refl
 
   reach_by : (w : Option PlainWay) (asked : List DirSeg) (to : ℕ) (now_ : ℕ) (bars : Bars)
-      → reach_from line (ready_found (train_by w)) (silent_found line now_ (train_by w)) (path_found (train_by w)) asked to bars
-      ≡ reach_from line (is_some w && nat_lt 0 (counted line t s)) (silent_by line (report_time line (zone_id line) t s) now_) (path_of w) asked to bars
+      → reach_from line (ready_found (train_by w)) (pending_found (train_by w)) (silent_found line now_ (train_by w)) (path_found (train_by w)) asked to bars
+      ≡ reach_from line (is_some w && nat_lt 0 (counted line t s)) (is_pending line t s) (silent_by line (report_time line (zone_id line) t s) now_) (path_of w) asked to bars
   reach_by None asked to now_ bars = refl
-  reach_by (Some w) asked to now_ bars = refl
+  reach_by (Some w) asked to now_ bars =
+      ap (λ (b : Bool). reach_from line (nat_lt 0 (counted line t s)) b (silent_by line (report_time line (zone_id line) t s) now_) (Some w.path) asked to bars)
+      (pending_is (seg_len line) (journey line t s) (way_start line t s w) (account line t s))
 
   id_by : (w : Option PlainWay) (x : Controlled) → train_by w ≡ Some x → x.id.0 ≡ t
   id_by None x e = absurd cc
@@ -135,7 +144,7 @@ module _ (line : Line) (s : Story) (valid : is_line line ≡ true) (invariant : 
   reach_now t asked to now_ closed shut =
       let z = zone_id line in
       let w = way line z t s in
-      ap (λ (x : Option Controlled). reach_from line (ready_found x) (silent_found line now_ x) (path_found x) asked to (barring_plain line z ways closed t)) (g.found t)
+      ap (λ (x : Option Controlled). reach_from line (ready_found x) (pending_found x) (silent_found line now_ x) (path_found x) asked to (barring_plain line z ways closed t)) (g.found t)
       ∙ (reach_by line t s clock w asked to now_ (barring_plain line z ways closed t)
-      ∙ (ap (λ (b : Bool). reach_from line (b && nat_lt 0 (counted line t s)) (silent_by line (report_time line z t s) now_) (path_of w) asked to (barring_plain line z ways closed t)) (way_is_known line z t s)
-      ∙ ap (λ (bars : Bars). reach_from line (controls z t s && nat_lt 0 (counted line t s)) (silent_by line (report_time line z t s) now_) (path_of w) asked to bars) (barring_now t closed shut)))
+      ∙ (ap (λ (b : Bool). reach_from line (b && nat_lt 0 (counted line t s)) (is_pending line t s) (silent_by line (report_time line z t s) now_) (path_of w) asked to (barring_plain line z ways closed t)) (way_is_known line z t s)
+      ∙ ap (λ (bars : Bars). reach_from line (controls z t s && nat_lt 0 (counted line t s)) (is_pending line t s) (silent_by line (report_time line z t s) now_) (path_of w) asked to bars) (barring_now t closed shut)))

@@ -10,13 +10,14 @@ use Rattle.definitions.specs.Safe.{IsLineOfOneZone}
 use Rattle.definitions.specs.Zones.{zone_id}
 use Rattle.event_laws.proofs.Issued_all.{NoAuth}
 use Rattle.invariant_laws.proofs.Invariant.{Invariant}
+use Rattle.front_laws.proofs.Taken_counts.{cuts}
 use Rattle.front_laws.proofs.Route_goes_on.{end_quiet}
 use Rattle.refinement_laws.proofs.The_zone.{zone_positive}
 
--- the longest authority ends where it did
+-- the longest authority ends where it did, but for a shrink that counts as taken
 pub end_same : (line : Line) (t : ℕ) (x : Transition) (s : Story) → NoAuth t x.issued → (invariant : Invariant line t s) → (after : Invariant line t (x ∷ s)) → controls (zone_id line) t s ≡ true → controls (zone_id line) t (x ∷ s) ≡ true
-    → head t s ≤ head t (x ∷ s) → longest_end line t (x ∷ s) ≡ longest_end line t s
-end_same line t x s a invariant after c d heads = end_quiet line t s x invariant.motion invariant.authorized after.authorized c d heads a
+    → head t s ≤ head t (x ∷ s) → cuts line t x s ≡ false → longest_end line t (x ∷ s) ≡ longest_end line t s
+end_same line t x s a invariant after c d heads calm = end_quiet line t s x invariant.motion invariant.authorized after.authorized c d heads calm a
 
 -- the world controls no train
 pub world_controls : (line : Line) (t : ℕ) (s : Story) → IsLineOfOneZone line → Invariant line t s → controls 0 t s ≡ false

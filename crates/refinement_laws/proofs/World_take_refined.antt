@@ -1,5 +1,5 @@
 -- The plain state follows the world's takes.
-use Rattle.std.proofs.Common.{◌≡◌, ℕ, ◌-◌, max, List, [], ◌∷◌, length, Option, Some, None, Bool, true, false, ◌&&◌, ◌||◌, refl, sym, ◌∙◌, ap, subst, arith, if◌then◌else◌}
+use Rattle.std.proofs.Common.{◌≡◌, ℕ, ◌-◌, ◌<◌, max, List, [], ◌∷◌, length, Option, Some, None, Bool, true, false, ◌&&◌, ◌||◌, refl, sym, ◌∙◌, ap, subst, arith, if◌then◌else◌}
 use Rattle.std.proofs.lemmas.Bool.Decides.{nat_tests}
 use Rattle.std.proofs.lemmas.Bool.{eqb-true, leb-true, and_parts}
 use Rattle.std.specs.Prelude.{nat_eq, nat_lt, nat_le, slice_get, is_some}
@@ -107,7 +107,7 @@ module _ (line : Line) (from number : ℕ) (u : TrainId) (n mark : ℕ) (path : 
         (rw off2 refl) (sym (pace_still t x s refl)) room (sym (number_off t x s refl off)) (off_taken line t s off ∙ sym (off_taken line t (x ∷ s) off2)))
 
     -- on the line
-    module _ (on : entered t s ≡ true) (invariant : Invariant line t s) (is : AuthorityIs line t s (record { mark = mark; path = path })) where
+    module _ (on : entered t s ≡ true) (invariant : Invariant line t s) (ahead : last_number t s < n → AuthorityIs line t s (record { mark = mark; path = path })) where
       abbrev h : Head
       h = head_there line t s invariant on
 
@@ -146,9 +146,9 @@ module _ (line : Line) (from number : ℕ) (u : TrainId) (n mark : ℕ) (path : 
           let last = last_is in
           (omega (arith, limit, same), (grind (arith, nat_tests), sym (taken_new line t x s refl on (new_number new) ∙ refused)))
 
-      taken_room : accepts line t s (limit_place line t s) (record { mark = mark; path = path }) ≡ true
+      taken_room : AuthorityIs line t s (record { mark = mark; path = path }) → accepts line t s (limit_place line t s) (record { mark = mark; path = path }) ≡ true
           → room_to (seg_len line) mark path (length (journey line t s) - 1) (head_offset line t s) ≡ authority_end (seg_len line) (journey line t s) (record { mark = mark; path = path }) - head t s
-      taken_room so =
+      taken_room is so =
           let steps = journey line t s in
           let i = length steps - 1 - mark in
           let there = is_step (last_step steps) (slice_get path.steps.items i) in
@@ -166,7 +166,7 @@ module _ (line : Line) (from number : ℕ) (u : TrainId) (n mark : ℕ) (path : 
           ap (λ (k : Option HeldPath). held_end len (journey line t (x ∷ s)) k) (limit_next line t x s refl on (new_number new) accepted ∙ path_is) ∙ ap (λ (xs : List DirSeg). authority_end len xs a) journey_same in
           let same = head_same t x s refl refl in
           let last = last_is in
-          let room = taken_room so in
+          let room = taken_room (ahead (grind (arith, nat_tests))) so in
           (omega (arith, limit, same, room), (grind (arith, nat_tests), sym (taken_new line t x s refl on (new_number new) ∙ accepted)))
 
       kept_so : {room last : ℕ} {taken : Bool} → IsDecided room last taken → is_some (entry_authority t s) ≡ true
@@ -176,15 +176,17 @@ module _ (line : Line) (from number : ℕ) (u : TrainId) (n mark : ℕ) (path : 
           is_made line t (x ∷ s) (sym (facts_still t x s refl)) (sym (entry_still t x s refl)) (sym (authority_next ∙ or_same (entry_authority t s) (taken_entry t (Some (from, msg.Auth u n mark path))) some))
           (sym (rw (on2, journey_same, head_same t x s refl refl) refl)) (sym (pace_still t x s refl)) k.0 k.1.0 k.1.1
 
-      decided_so : is_some (entry_authority t s) ≡ true
-          → world_of t (facts_of t s) (first_entry t s) (sender_of (entry_authority t s)) (Some h) (pace_of t s)
-          (decided (accepts line t s (limit_place line t s) (record { mark = mark; path = path })) n (room_to (seg_len line) mark path (length (journey line t s) - 1) (head_offset line t s)) (onboard_of line t s))
+      -- it decides as the story does where the number is new
+      decided_so : (takes_it : Bool) → (last_number t s < n → takes_it ≡ accepts line t s (limit_place line t s) (record { mark = mark; path = path })) → is_some (entry_authority t s) ≡ true
+          → world_of t (facts_of t s) (first_entry t s) (sender_of (entry_authority t s)) (Some h) (pace_of t s) (decided takes_it n (room_to (seg_len line) mark path (length (journey line t s) - 1) (head_offset line t s)) (onboard_of line t s))
           ≡ world_train line t (take_transition 0 from number (msg.Auth u n mark path) y ∷ s)
-      decided_so some =
+      decided_so takes_it agrees some =
           by_test (nat_lt (last_number t s) n)
-          (λ new. by_test (accepts line t s (limit_place line t s) a)
-          (λ yes. rw (new, yes) (kept_so (accepted_number new yes) some))
-          (λ no. rw (new, no) (kept_so (refused_number new no) some)))
+          (λ new.
+          let same = agrees (grind (arith, nat_tests)) in
+          by_test (accepts line t s (limit_place line t s) a)
+          (λ yes. let e = same ∙ yes in rw (new, e) (kept_so (accepted_number new yes) some))
+          (λ no. let e = same ∙ no in rw (new, e) (kept_so (refused_number new no) some)))
           (λ old. rw old (kept_so (old_number old) some))
 
       took_on : PaceIs (clock s) (pace_of t s) (speed_now t s) → is_some (entry_authority t s) ≡ true
@@ -195,8 +197,7 @@ module _ (line : Line) (from number : ℕ) (u : TrainId) (n mark : ℕ) (path : 
           ap (λ (k : Option Head). mapped (took_auth len (brake_of line) (clock s) from n mark path) (world_of t (facts_of t s) (first_entry t s) (sender_of (entry_authority t s)) k (pace_of t s) (onboard_of line t s))) there
           ∙ (mapped_on len (brake_of line) (clock s) t from n mark path (facts_of t s) (first_entry t s) (sender_of (entry_authority t s)) h (pace_of t s) (onboard_of line t s)
           ∙ (ap (λ (v : ℕ). world_of t (facts_of t s) (first_entry t s) (sender_of (entry_authority t s)) (Some h) (pace_of t s) (decided (takes_at len (stop_of (brake_of line) v) mark path h (onboard_of line t s)) n room (onboard_of line t s))) pace.is
-          ∙ (ap (λ (b : Bool). world_of t (facts_of t s) (first_entry t s) (sender_of (entry_authority t s)) (Some h) (pace_of t s) (decided b n room (onboard_of line t s))) (accepts_so line t s invariant on mark path is)
-          ∙ decided_so some)))
+          ∙ decided_so (takes_at len (stop_of (brake_of line) (speed_now t s)) mark path h (onboard_of line t s)) (λ new. accepts_so line t s invariant on mark path (ahead new)) some))
 
 kept_id : (len : Lengths) (brake : Brake) (clock_ from n mark : ℕ) (path : Path) (w : WorldTrain) → (took_auth len brake clock_ from n mark path w).id ≡ w.id
 kept_id len brake clock_ from n mark path w = by_head w w.head
@@ -228,7 +229,7 @@ auth_refined line from number u n mark path e y s p one k invariant paced true_ 
           (λ on.
           ap (λ (b : Brake). mapped (took_auth len b p.world.clock from n mark path) (world_train line t s)) k.brake
           ∙ (ap (λ (c : ℕ). mapped (took_auth len (brake_of line) c from n mark path) (world_train line t s)) k.time
-          ∙ took_on line from number u n mark path e s t its on (invariant t) (auth its).authority (paced t) (k.authorized t on)))
+          ∙ took_on line from number u n mark path e s t its on (invariant t) (auth its).ahead (paced t) (k.authorized t on)))
           (λ off. took_off line from number u n mark path e s t its p.world.brake p.world.clock off))))
           (λ other. find_other t u.0 took p.world.trains kept other
           ∙ (k.trains t ∙ sym (world_same line t x s (record { facts = refl; entry = refl; off = refl; still = refl; taken = rw other refl }))));

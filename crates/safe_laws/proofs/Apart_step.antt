@@ -13,7 +13,7 @@ use Rattle.track_points.specs.Points.{Layout, Point, Cell, Token, is_switch, mm_
 use Rattle.track_points.proofs.Some_found.{some_at}
 use Rattle.track_points.proofs.Cell_here.{cell_here}
 use Rattle.track_points.proofs.Points_found.{points_found}
-use Rattle.definitions.specs.Longest.{counted}
+use Rattle.definitions.specs.Longest.{counted, is_pending}
 use Rattle.definitions.specs.declared.event.Event.{Event}
 use Rattle.definitions.specs.declared.message.Msg.{Msg}
 use Rattle.definitions.specs.declared.message.Msg.TheVariants as msg
@@ -118,22 +118,26 @@ not_else line z t u s point none other = by_test (controls z u s)
     rw other at f)
     (λ n. held_none line z u s point n)
 
-stretch_free : (line : Line) (z t u : ℕ) (silent : Bool) (path : Path) (asked : List DirSeg) (to : ℕ) (s : Story) (point : Point) → nat_eq (owner line point) z ≡ true → nat_eq u t ≡ false
-    → has_between (layout line) (asked_way path.steps.items asked) (end_place (seg_len line) path) (end_place (seg_len line) path + (reach_from line (controls z t s && nat_lt 0 (counted line t s)) silent (Some path) asked to (barring line z t s)).distance) point ≡ true
+stretch_free : (line : Line) (z t u : ℕ) (pending silent : Bool) (path : Path) (asked : List DirSeg) (to : ℕ) (s : Story) (point : Point) → nat_eq (owner line point) z ≡ true → nat_eq u t ≡ false
+    → has_between (layout line) (asked_way path.steps.items asked) (end_place (seg_len line) path) (end_place (seg_len line) path + (reach_from line (controls z t s && nat_lt 0 (counted line t s)) pending silent (Some path) asked to (barring line z t s)).distance) point ≡ true
     → held line z u s point ≡ false
-stretch_free line z t u silent path asked to s point own other h =
+stretch_free line z t u pending silent path asked to s point own other h =
     let len = seg_len line in
     let ready = controls z t s && nat_lt 0 (counted line t s) in
     let end = end_place len path in
     by_test (ready && continues line path.steps.items asked)
-    (λ y. by_test silent
+    (λ y. by_test pending
+    (λ b.
+    let g : has_between (layout line) (asked_way path.steps.items asked) end (end + 0) point ≡ true = rw (y, b) at h in
+    nowhere g)
+    (λ b. by_test silent
     (λ q.
-    let g : has_between (layout line) (asked_way path.steps.items asked) end (end + 0) point ≡ true = rw (y, q) at h in
+    let g : has_between (layout line) (asked_way path.steps.items asked) end (end + 0) point ≡ true = rw (y, b, q) at h in
     nowhere g)
     (λ q.
     let ask : Ask = ask_of len path asked to (barring line z t s) in
     let is : IsReach (layout line) ask (reach_on (layout line) ask) = reach_is (layout line) ask in
-    let g : has_between (layout line) (asked_way path.steps.items asked) end (end + (reach_on (layout line) ask).distance) point ≡ true = rw (y, q) at h in
+    let g : has_between (layout line) (asked_way path.steps.items asked) end (end + (reach_on (layout line) ask).distance) point ≡ true = rw (y, b, q) at h in
     let r = points_found point (layout line) (asked_way path.steps.items asked) end (end + (reach_on (layout line) ask).distance) g in
     let from = r.from in let below = r.below in
     let near : r.place - end < (reach_on (layout line) ask).distance = omega arith in
@@ -142,7 +146,7 @@ stretch_free line z t u silent path asked to s point own other h =
     let none : (barring line z t s).held point ≡ false = by_test ((barring line z t s).held point)
     (λ y. absurd (let e = sym (on_passes (barring line z t s).held point (layout line) (asked_way path.steps.items asked) r.place r.passing y) ∙ not_held in cc))
     (λ m. m) in
-    not_else line z t u s point (and_right (nat_eq (owner line point) z) (held_else line z t s point) own none) other))
+    not_else line z t u s point (and_right (nat_eq (owner line point) z) (held_else line z t s point) own none) other)))
     (λ n.
     let g : has_between (layout line) (asked_way path.steps.items asked) end (end + 0) point ≡ true = rw n at h in
     nowhere g)
@@ -173,7 +177,7 @@ added_free line y t u s (msg.Ask v time steps to) point own other h =
         → reached (layout line) (way line y t s) steps.items (limit line y t s (now_with y s (msg.Ask v time steps to)) steps.items to).distance point ≡ true → held line y u s point ≡ false
     by_way None is g = absurd (let z : false ≡ true = rw is at g in cc)
     by_way (Some w) is g =
-        stretch_free line y t u (silent_by line (report_time line y t s) (now_with y s (msg.Ask v time steps to))) w.path steps.items to s point own other (rw is at g)
+        stretch_free line y t u (is_pending line t s) (silent_by line (report_time line y t s) (now_with y s (msg.Ask v time steps to))) w.path steps.items to s point own other (rw is at g)
 added_free line y t u s _ point own other h = absurd cc
 
 same_asker : (line : Line) (y z t u : ℕ) (s : Story) (m : Msg) (point : Point) → added_by line y t s m point ≡ true → added_by line z u s m point ≡ true → t ≡ u

@@ -18,19 +18,22 @@ use Rattle.event_laws.proofs.Controls_same.{controls_same}
 use Rattle.event_laws.proofs.Issued_all.{AllIn, NoAuth, in_all_weaker, AuthHas, auth_without}
 use Rattle.invariant_laws.proofs.Invariant.{Invariant}
 use Rattle.front_laws.proofs.Route_goes_on.{end_most}
+use Rattle.front_laws.proofs.Taken_counts.{cuts}
 use Rattle.safe_laws.proofs.Held_points.{held_controls}
-use Rattle.safe_laws.proofs.Held_or_beyond.{held_or_beyond}
+use Rattle.safe_laws.proofs.Held_or_beyond.{held_or_beyond, held_cut}
 
 -- what a transition adds to what is held for a train, and nothing else, is held after it
 pub record Adds (line : Line) (t : ℕ) (s : Story) (x : Transition) : Type 0 where
   pub adds : (z : ℕ) (point : Point) → (nat_eq (owner line point) z && added line z t s x.actor x.took point) ≡ true → held line z t (x ∷ s) point ≡ true
   pub exact : (z : ℕ) (point : Point) → held line z t (x ∷ s) point ≡ true → (held line z t s point || (nat_eq (owner line point) z && added line z t s x.actor x.took point)) ≡ true
 
--- a transition that grants no entry, issues no authority of the train that ends beyond the longest, and adds nothing
+-- a transition that grants no entry, issues no authority of the train that ends beyond the longest, and none where its shrink counts
+-- as taken, and adds nothing
 pub record Calm (line : Line) (t : ℕ) (s : Story) (x : Transition) : Type 0 where
   pub refused : (y : ℕ) → grants_entry y t x ≡ false
   pub heads : head t s ≤ head t (x ∷ s)
   pub ends : controls (zone_id line) t s ≡ true → AllIn (AuthHas (λ a. authority_end (seg_len line) (journey line t (x ∷ s)) a ≤ longest_end line t s) t) x.issued
+  pub quiet : cuts line t x s ≡ true → NoAuth t x.issued
   pub adds_none : (y : ℕ) (point : Point) → added line y t s x.actor x.took point ≡ false
 
 -- what a zone holds, the line's one holds
@@ -47,11 +50,13 @@ calm_adds line t s x l invariant after calm = record {
     was_here point h =
         let after_control = held_controls line (zone_id line) t (x ∷ s) point h in
         let control : controls (zone_id line) t s ≡ true = sym (controls_same (zone_id line) t x s (calm.refused (zone_id line))) ∙ after_control in
-        held_or_beyond line t s x l invariant after control calm.heads (calm.refused (zone_id line)) point h (held line (zone_id line) t s point ≡ true)
+        by_test (cuts line t x s)
+        (λ y. held_cut line t s x l invariant after control calm.heads y (calm.quiet y) (calm.refused (zone_id line)) point h)
+        (λ uncut. held_or_beyond line t s x l invariant after control calm.heads uncut (calm.refused (zone_id line)) point h (held line (zone_id line) t s point ≡ true)
         (λ old. old)
         (λ less new.
         let e = end_most line t s x invariant.motion invariant.authorized after.authorized control after_control calm.heads (longest_end line t s) (omega arith) (calm.ends control) in
-        absurd (omega (arith, less, e)))
+        absurd (omega (arith, less, e))))
 
     was : (z : ℕ) (point : Point) → held line z t (x ∷ s) point ≡ true → held line z t s point ≡ true
     was z point h =
@@ -67,6 +72,7 @@ no_auth_calm line t s x none heads unadded = record {
   refused = λ y. quiet_grants y t x none;
   ends = λ control. in_all_weaker (λ m. is_auth t m ≡ false) (AuthHas (λ a. authority_end (seg_len line) (journey line t (x ∷ s)) a ≤ longest_end line t s) t)
       (auth_without (λ a. authority_end (seg_len line) (journey line t (x ∷ s)) a ≤ longest_end line t s) t) x.issued none;
+  quiet = λ y. none;
   adds_none = unadded;
 }
 

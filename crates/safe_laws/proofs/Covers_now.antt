@@ -1,6 +1,7 @@
 -- Every envelope covers its train, and all that a train may use is held for it.
 use Rattle.std.proofs.Common.{◌≡◌, ℕ, ◌+◌, ◌≤◌, List, [], ◌∷◌, take, Option, Some, None, true, false, ◌||◌, refl, sym, ◌∙◌, ap, subst, arith}
 use Rattle.std.specs.Prelude.{nat_eq, nat_le, nat_lt, is_some}
+use Rattle.std.proofs.lemmas.Bool.Decides.{nat_tests}
 use Rattle.std.proofs.lemmas.Bool.{and_parts}
 use Rattle.list_laws.proofs.By_test.{by_or, by_test}
 use Rattle.track_points.specs.declared.ids.DirSeg.{DirSeg}
@@ -19,6 +20,7 @@ use Rattle.definitions.specs.Safe.{IsLineOfOneZone}
 use Rattle.definitions.specs.Zones.{zone_id}
 use Rattle.way_laws.proofs.Cut_front.{none_between, cut_points}
 use Rattle.way_laws.proofs.Cut_cut.{cut_cut, points_after}
+use Rattle.event_laws.proofs.Still_world.{off_number}
 use Rattle.event_laws.proofs.Facts_stay.{declared_stays, long_stays}
 use Rattle.motion_laws.proofs.Motion.{place, place_at, Timed, place_at_most}
 use Rattle.invariant_laws.proofs.One_route.{numbered_controls, on_controls}
@@ -136,8 +138,9 @@ module _ (line : Line) (t : ℕ) (s : Story) (l : IsLineOfOneZone line) (invaria
   auth_held_here on (msg.Auth u number mark path) p h =
       let a = and_parts (nat_eq u.0 t) _ h in
       let b = and_parts (nat_lt (last_number t s) number) _ a.1 in
+      let above = b.0 in
       let control = on_controls line t s invariant.authorized on in
-      authority_held line t s l invariant control (rear t s) (record { mark = mark; path = path }) point (p a.0).authority (rear_behind line t s l invariant control on) b.1
+      authority_held line t s l invariant control (rear t s) (record { mark = mark; path = path }) point ((p a.0).ahead (grind (arith, nat_tests))) (rear_behind line t s l invariant control on) b.1
   auth_held_here on _ p h = absurd cc
 
   any_held_here : entered t s ≡ false → (m : Msg) → AuthTrue line t s m → auth_has_any (layout line) t point m ≡ true → held line (owner line point) t s point ≡ true
@@ -145,7 +148,9 @@ module _ (line : Line) (t : ℕ) (s : Story) (l : IsLineOfOneZone line) (invaria
       let a = and_parts (nat_eq u.0 t) _ h in
       let is = p a.0 in
       let control = numbered_controls line t s invariant.authorized (let p = is.positive in let q = is.known in omega (arith, p, q)) in
-      path_held line t s l invariant control (record { mark = mark; path = path }) point off is.authority a.1
+      let z = off_number t s off in
+      let some = is.positive in
+      path_held line t s l invariant control (record { mark = mark; path = path }) point off (is.ahead (omega (arith, z, some))) a.1
   any_held_here off _ p h = absurd cc
 
   within_here : usable line t s point ≡ true → held line (owner line point) t s point ≡ true

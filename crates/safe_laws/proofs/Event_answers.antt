@@ -13,12 +13,12 @@ use Rattle.definitions.specs.declared.event.Event.{Event}
 use Rattle.definitions.specs.declared.event.Event.TheVariants.{Take}
 use Rattle.definitions.specs.declared.message.Msg.{Msg}
 use Rattle.definitions.specs.declared.message.Msg.TheVariants as msg
-use Rattle.definitions.specs.declared.outcome.Obstacle.TheVariants.{NotJoined, Silent}
+use Rattle.definitions.specs.declared.outcome.Obstacle.TheVariants.{Pending, NotJoined, Silent}
 use Rattle.definitions.specs.Track.{Line, seg_len, layout}
 use Rattle.definitions.specs.Ways.{PlainWay}
 use Rattle.definitions.specs.Story.{Transition, Story}
 use Rattle.definitions.specs.Control.{controls, now_with, last_issued}
-use Rattle.definitions.specs.Longest.{counted}
+use Rattle.definitions.specs.Longest.{counted, is_pending}
 use Rattle.definitions.specs.Fronts.{report_time, silent_by}
 use Rattle.definitions.specs.Authority.{way}
 use Rattle.definitions.specs.Limit.{Bars, Reach, barred, further, asked_way, continues, path_of, ask_of, reach_from, barring, limit}
@@ -33,20 +33,20 @@ use Rattle.safe_laws.proofs.Held_way_ends.{held_way_some, held_way_within}
 
 -- The reach, where an ask is barred.
 
-pub unready_reach : (line : Line) (ready silent : Bool) (path : Option Path) (asked : List DirSeg) (to : ℕ) (bars : Bars) → ready ≡ false → reach_from line ready silent path asked to bars ≡ barred NotJoined
-unready_reach line ready silent None asked to bars h = refl
-unready_reach line ready silent (Some path) asked to bars h = rw h refl
+pub unready_reach : (line : Line) (ready pending silent : Bool) (path : Option Path) (asked : List DirSeg) (to : ℕ) (bars : Bars) → ready ≡ false → reach_from line ready pending silent path asked to bars ≡ barred NotJoined
+unready_reach line ready pending silent None asked to bars h = refl
+unready_reach line ready pending silent (Some path) asked to bars h = rw h refl
 
 -- an ask that no bar refuses reaches exactly the first obstacle
 pub ask_reaches : (line : Line) (s : Story) (z t now_ to : ℕ) (asked : List DirSeg) (way_ : PlainWay) → way line z t s ≡ Some way_ → (controls z t s && nat_lt 0 (counted line t s)) ≡ true
-    → continues line way_.path.steps.items asked ≡ true → silent_by line (report_time line z t s) now_ ≡ false
+    → continues line way_.path.steps.items asked ≡ true → is_pending line t s ≡ false → silent_by line (report_time line z t s) now_ ≡ false
     → IsReach (layout line) (ask_of (seg_len line) way_.path asked to (barring line z t s)) (limit line z t s now_ asked to)
-ask_reaches line s z t now_ to asked way_ is ready joins quiet =
+ask_reaches line s z t now_ to asked way_ is ready joins idle quiet =
     let bars = barring line z t s in
-    let e : limit line z t s now_ asked to ≡ reach_from line (controls z t s && nat_lt 0 (counted line t s)) (silent_by line (report_time line z t s) now_) (Some way_.path) asked to bars =
-    ap (λ (v : Option PlainWay). reach_from line (controls z t s && nat_lt 0 (counted line t s)) (silent_by line (report_time line z t s) now_) (path_of v) asked to bars) is in
+    let e : limit line z t s now_ asked to ≡ reach_from line (controls z t s && nat_lt 0 (counted line t s)) (is_pending line t s) (silent_by line (report_time line z t s) now_) (Some way_.path) asked to bars =
+    ap (λ (v : Option PlainWay). reach_from line (controls z t s && nat_lt 0 (counted line t s)) (is_pending line t s) (silent_by line (report_time line z t s) now_) (path_of v) asked to bars) is in
     subst (λ (r : Reach). IsReach (layout line) (ask_of (seg_len line) way_.path asked to bars) r) (sym e)
-    (rw (ready, joins, quiet) (reach_is (layout line) (ask_of (seg_len line) way_.path asked to bars)))
+    (rw (ready, joins, idle, quiet) (reach_is (layout line) (ask_of (seg_len line) way_.path asked to bars)))
 
 -- What a zone answers, by the reach.
 
@@ -72,6 +72,9 @@ module _ (line : Line) (z from number time to : ℕ) (u : TrainId) (steps : Arra
   abbrev ready : Bool
   ready = controls (suc z) u.0 s && nat_lt 0 (counted line u.0 s)
 
+  abbrev pending : Bool
+  pending = is_pending line u.0 s
+
   abbrev quiet : Bool
   quiet = silent_by line (report_time line (suc z) u.0 s) now_
 
@@ -86,8 +89,8 @@ module _ (line : Line) (z from number time to : ℕ) (u : TrainId) (steps : Arra
       record { issued = ap (λ (y : Effect). y.issued) e; named = ap (λ (y : Effect). y.lines ++ alarms line (suc z) s asks) e }
 
   -- the reach of a way that is there
-  on_way : (w : PlainWay) → way line (suc z) u.0 s ≡ Some w → reach ≡ reach_from line ready quiet (Some w.path) steps.items to (barring line (suc z) u.0 s)
-  on_way w is = ap (λ (v : Option PlainWay). reach_from line ready quiet (path_of v) steps.items to (barring line (suc z) u.0 s)) is
+  on_way : (w : PlainWay) → way line (suc z) u.0 s ≡ Some w → reach ≡ reach_from line ready pending quiet (Some w.path) steps.items to (barring line (suc z) u.0 s)
+  on_way w is = ap (λ (v : Option PlainWay). reach_from line ready pending quiet (path_of v) steps.items to (barring line (suc z) u.0 s)) is
 
   far : (w : PlainWay) → way line (suc z) u.0 s ≡ Some w → ready ≡ true → end_place (seg_len line) w.path + reach.distance ≤ total (seg_len line) (asked_way w.path.steps.items steps.items)
   far w is on =
@@ -99,7 +102,7 @@ module _ (line : Line) (z from number time to : ℕ) (u : TrainId) (steps : Arra
       let some = subst (λ (v : PlainWay). 0 < length v.path.steps.items) way_ (held_way_some line u.0 s l invariant control) in
       let within = subst (λ (v : PlainWay). end_place (seg_len line) v.path ≤ total (seg_len line) v.path.steps.items) way_ (held_way_within line u.0 s l invariant control) in
       subst (λ (r : Reach). end_place (seg_len line) w.path + r.distance ≤ total (seg_len line) (asked_way w.path.steps.items steps.items)) (sym (on_way w is))
-      (reach_granted line ready quiet w.path steps.items to (barring line (suc z) u.0 s) some within)
+      (reach_granted line ready pending quiet w.path steps.items to (barring line (suc z) u.0 s) some within)
 
   by_granted : (w : PlainWay) → way line (suc z) u.0 s ≡ Some w → ready ≡ true → 0 < reach.distance
       → Lengthened line (suc z) u (last_issued u.0 s + 1) w (ask_of (seg_len line) w.path steps.items to (barring line (suc z) u.0 s)) reach (alarms line (suc z) s asks) x
@@ -119,17 +122,18 @@ module _ (line : Line) (z from number time to : ℕ) (u : TrainId) (steps : Arra
         named = ap (λ (y : Effect). y.lines ++ alarms line (suc z) s asks) e;
       }
 
-  not_joined : (w : PlainWay) → continues line w.path.steps.items steps.items ≡ false → reach_from line ready quiet (Some w.path) steps.items to (barring line (suc z) u.0 s) ≡ barred NotJoined
+  not_joined : (w : PlainWay) → continues line w.path.steps.items steps.items ≡ false → reach_from line ready pending quiet (Some w.path) steps.items to (barring line (suc z) u.0 s) ≡ barred NotJoined
   not_joined w apart = rw (apart, and-false ready) refl
 
   ask_answered : Answered line (suc z) s u steps.items to now_ (alarms line (suc z) s asks) x
   ask_answered = record {
-    unready = λ off. by_denied (barred NotJoined) (unready_reach line ready quiet (path_of (way line (suc z) u.0 s)) steps.items to (barring line (suc z) u.0 s) off) refl;
+    unready = λ off. by_denied (barred NotJoined) (unready_reach line ready pending quiet (path_of (way line (suc z) u.0 s)) steps.items to (barring line (suc z) u.0 s) off) refl;
     unjoined = λ w is apart. by_denied (barred NotJoined) (on_way w is ∙ not_joined w apart) refl;
-    silent = λ w is on joins still. by_denied (barred Silent) (on_way w is ∙ rw (on, joins, still) refl) refl;
-    free = λ w is on joins heard. record {
+    pending = λ w is on joins waits. by_denied (barred Pending) (on_way w is ∙ rw (on, joins, waits) refl) refl;
+    silent = λ w is on joins idle still. by_denied (barred Silent) (on_way w is ∙ rw (on, joins, idle, still) refl) refl;
+    free = λ w is on joins idle heard. record {
       reach = reach;
-      first = ask_reaches line s (suc z) u.0 now_ to steps.items w is on joins heard;
+      first = ask_reaches line s (suc z) u.0 now_ to steps.items w is on joins idle heard;
       denied = λ none. by_denied reach refl none;
       granted = λ some. by_granted w is on some;
     };

@@ -1,4 +1,4 @@
--- What one transition makes of what is held for a train: its rear moves on, and its route goes on.
+-- What one transition makes of what is held for a train: its rear moves on, and its route goes on or is cut.
 use Rattle.std.proofs.Common.{◌≡◌, ℕ, ◌<◌, ◌≤◌, ◌∷◌, Some, true, false, sym, ◌∙◌, ap, arith}
 use Rattle.std.proofs.lemmas.Bool.Decides.{nat_tests}
 use Rattle.std.specs.Prelude.{nat_le}
@@ -23,7 +23,9 @@ use Rattle.front_laws.proofs.Head_place.{place_within}
 use Rattle.way_laws.proofs.Cut_front.{cut_points}
 use Rattle.way_laws.proofs.Cut_cut.{cut_cut}
 use Rattle.track_points.proofs.Points_found.{points_wider}
-use Rattle.front_laws.proofs.Route_goes_on.{route_goes_on, end_goes_on}
+use Rattle.front_laws.proofs.Route_goes_on.{route_goes_on, end_goes_on, end_nearer, route_cut}
+use Rattle.front_laws.proofs.Taken_counts.{cuts}
+use Rattle.event_laws.proofs.Issued_all.{NoAuth}
 use Rattle.safe_laws.proofs.Held_points.{one, route_has, rear_is, held_points, points_held}
 
 -- A train that the zone controlled already.
@@ -71,17 +73,18 @@ module _ (line : Line) (t : ℕ) (s : Story) (x : Transition) (l : IsLineOfOneZo
       let q = place_within line t s l.valid invariant control in
       omega arith
 
-  module _ (heads : head t s ≤ head t (x ∷ s)) where
+  -- where no shrink counts as taken
+  module _ (heads : head t s ≤ head t (x ∷ s)) (uncut : cuts line t x s ≡ false) where
     -- the one route has the points that it had, up to the old end
     same_points : (lo hi : ℕ) (point : Point) → hi ≤ longest_end line t s → route_has line t (x ∷ s) lo hi point ≡ route_has line t s lo hi point
     same_points lo hi point h =
         let len = seg_len line in
         let r = (one line t s l invariant control).reach in
         let r2 = (one line t (x ∷ s) l after now_control).reach in
-        let grown = end_goes_on line t s x invariant.motion invariant.authorized after.authorized control now_control heads in
+        let grown = end_goes_on line t s x invariant.motion invariant.authorized after.authorized control now_control heads uncut in
         let goes : steps_to len (longest_route line t (x ∷ s)) hi ≡ steps_to len (longest_route line t s) hi =
         sym (cut_cut len (longest_route line t (x ∷ s)) hi (longest_end line t s) h)
-        ∙ ap (λ xs. steps_to len xs hi) (route_goes_on line t s x invariant.motion invariant.authorized after.authorized control now_control heads) in
+        ∙ ap (λ xs. steps_to len xs hi) (route_goes_on line t s x invariant.motion invariant.authorized after.authorized control now_control heads uncut) in
         sym (cut_points point (layout line) (longest_route line t (x ∷ s)) lo hi (omega (arith, h, r2, grown)))
         ∙ ap (λ xs. has_between (layout line) xs lo hi point) goes
         ∙ cut_points point (layout line) (longest_route line t s) lo hi (omega (arith, h, r))
@@ -107,3 +110,21 @@ module _ (line : Line) (t : ℕ) (s : Story) (x : Transition) (l : IsLineOfOneZo
         by_test (route_has line t (x ∷ s) rear_ end point)
         (λ a. old (before end (omega arith) rear_ (omega arith) a))
         (λ b. new (grind (arith, nat_tests)) (rw b at cases)))
+
+  -- where one does, what is held now was held: the one route is cut, and its rear moves on
+  pub held_cut : head t s ≤ head t (x ∷ s) → cuts line t x s ≡ true → NoAuth t x.issued → grants_entry (zone_id line) t x ≡ false → (point : Point) → held line (zone_id line) t (x ∷ s) point ≡ true
+      → held line (zone_id line) t s point ≡ true
+  held_cut heads taken quiet refused point h =
+      let rear_ = least_rear line (zone_id line) t s in
+      let rear2 = least_rear line (zone_id line) t (x ∷ s) in
+      let end = longest_end line t s in
+      let end2 = longest_end line t (x ∷ s) in
+      let r = rear_rises refused in
+      let reach = (one line t s l invariant control).reach in
+      let nearer = end_nearer line t s x invariant.motion invariant.authorized after.authorized control now_control heads taken quiet in
+      let here = held_points line t (x ∷ s) l after now_control point h in
+      let on : route_has line t s rear2 end2 point ≡ true =
+      sym (cut_points point (layout line) (longest_route line t s) rear2 end2 (omega (arith, nearer, reach)))
+      ∙ ap (λ xs. has_between (layout line) xs rear2 end2 point) (sym (route_cut line t s x invariant.motion invariant.authorized after.authorized control now_control heads taken quiet))
+      ∙ here in
+      points_held line t s l invariant control point (points_wider point (layout line) (longest_route line t s) rear2 end2 rear_ end r (omega (arith, nearer)) on)

@@ -9,6 +9,8 @@ use Rattle.definitions.specs.Longest.{longest_end, longest_route}
 use Rattle.definitions.specs.Fronts.{least_rear}
 use Rattle.definitions.specs.Safe.{IsLineOfOneZone}
 use Rattle.definitions.specs.Zones.{zone_id}
+use Rattle.definitions.specs.Steps.{path_to}
+use Rattle.way_laws.proofs.Cut_front.{cut_end}
 use Rattle.way_laws.proofs.Between_points.{between_some, between_end, between_within}
 use Rattle.event_laws.proofs.Still_world.{journey_still}
 use Rattle.invariant_laws.proofs.Invariant.{Invariant}
@@ -41,3 +43,12 @@ module _ (line : Line) (t : ℕ) (s : Story) (l : IsLineOfOneZone line) (invaria
       let b = ap (total (seg_len line)) (way_begins line t s invariant.motion invariant.authorized control (invariant.fronts control) l.valid) in
       let e = held_way_end in
       omega (arith, j, b, e)
+
+  -- an authority over the way up to a place of it ends no farther
+  pub held_way_to : (x : Transition) (p : ℕ) → goes_on t x.event ≡ false → p ≤ end_place (seg_len line) (held_way line t s).path
+      → authority_end (seg_len line) (journey line t (x ∷ s)) (record { mark = (held_way line t s).mark; path = path_to (seg_len line) (held_way line t s).path.from (held_way line t s).path.steps.items p }) ≤ longest_end line t s
+  held_way_to x p still before =
+      let whole = held_way_ends x still in
+      let within = held_way_within in
+      let e = cut_end (seg_len line) (held_way line t s).path.steps.items p (omega (arith, before, within)) in
+      omega (arith, whole, e, before)

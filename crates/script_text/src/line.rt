@@ -21,7 +21,7 @@ fn is_unbuilt(form: usize, values: &[u64]) -> bool
             [_, _, _, _, kind] => *kind == 1,
             _ => false,
         },
-        1 | 2 | 3 | 4 | 7 | 8 | 9 | 10 | 16 | 17 | 20 | 21 | 22 => false,
+        1 | 2 | 3 | 4 | 7 | 8 | 9 | 10 | 13 | 16 | 17 | 20 | 21 | 22 => false,
         _ => true,
     }
 }

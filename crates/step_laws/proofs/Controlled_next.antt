@@ -1,5 +1,5 @@
 -- One transition further: what is counted, who controls, what was issued, and what the train holds.
-use Rattle.std.proofs.Common.{◌≡◌, ℕ, ◌≤◌, ◌<◌, List, ◌∷◌, Option, Some, None, true, false, not, refl, sym, ◌∙◌, ap, subst, arith}
+use Rattle.std.proofs.Common.{◌≡◌, ℕ, ◌≤◌, List, ◌∷◌, Option, Some, None, true, false, not, refl, sym, ◌∙◌, ap, subst, arith}
 use Rattle.std.proofs.lemmas.Bool.Decides.{nat_tests}
 use Rattle.std.proofs.lemmas.Bool.{eqb-true, and_parts}
 use Rattle.std.specs.Prelude.{nat_eq, nat_le, is_some}
@@ -7,37 +7,42 @@ use Rattle.list_laws.proofs.By_test.{by_test}
 use Rattle.definitions.specs.declared.event.Event.{Event}
 use Rattle.definitions.specs.declared.event.Event.TheVariants.{Train, Enter}
 use Rattle.definitions.specs.declared.message.Msg.{Msg}
-use Rattle.definitions.specs.Track.{Line, seg_len, ranged}
+use Rattle.definitions.specs.Track.{Line, ranged}
 use Rattle.definitions.specs.Rules.{is_line}
 use Rattle.definitions.specs.Premises.{built, enters_rightly}
 use Rattle.definitions.specs.Story.{Transition, Story, world_took}
-use Rattle.definitions.specs.World.{Facts, facts_or, facts_in, facts_of, is_declared, long_of, enters, entered, journey, Authority, HeldPath, is_auth, taken_number, taken_path, taken_entry, entry_authority, last_number}
-use Rattle.definitions.specs.Control.{grants_entry, controls, last_issued}
+use Rattle.definitions.specs.World.{Facts, facts_or, facts_in, facts_of, is_declared, long_of, enters, entered, head, HeldPath, is_auth, taken_number, taken_path, taken_entry, entry_authority, last_number}
+use Rattle.definitions.specs.Control.{grants_entry, controls, now_of, last_issued}
 use Rattle.definitions.specs.Fold.{account}
-use Rattle.definitions.specs.Farther.{end_or_0}
-use Rattle.definitions.specs.Longest.{counted, longest_end}
+use Rattle.definitions.specs.Longest.{counted, longest_end, shrink_place}
 use Rattle.definitions.specs.Fronts.{least_rear}
 use Rattle.definitions.specs.Zones.{zone_id}
-use Rattle.event_laws.proofs.Issued_all.{AllIn, AllIssued, all_weaker, in_all_weaker}
+use Rattle.event_laws.proofs.Issued_all.{AllIn, AllIssued, NoAuth, all_weaker, in_all_weaker}
 use Rattle.event_laws.proofs.Admitted.{Admitted}
 use Rattle.event_laws.proofs.Facts_stay.{long_stays}
 use Rattle.event_laws.proofs.Entered_same.{told_stays, told_now, entered_same}
-use Rattle.event_laws.proofs.Controls_same.{controls_same, known_same}
-use Rattle.motion_laws.proofs.Head_step.{enter_once}
-use Rattle.invariant_laws.proofs.Invariant.{end_read, AuthorityIs, AuthIs, AuthTrue, FrontsAre, SomeIs, ControlIs, EntryHeld, LimitIs, Authorized}
-use Rattle.invariant_laws.proofs.One_route.{numbered_controls}
-use Rattle.authority_laws.proofs.Authority_stays.{off_before, first_is_stays}
-use Rattle.event_laws.proofs.Last_quiet.{last_quiet, last_grows}
-use Rattle.front_laws.proofs.Taken_counts.{counted_unanswered}
-use Rattle.authority_laws.proofs.New_auth.{NewAuth, never}
-use Rattle.authority_laws.proofs.Control_new.{last_new, new_top, reads_new, read_new, new_is, control_new}
-use Rattle.authority_laws.proofs.Auths_stay.{unshrunk_quiet, unread_quiet, Going, AuthsStay, reads_still, quiet_stay, new_stay, held_stays, auths_stay, none_true, control_quiet}
-use Rattle.front_laws.proofs.Route_goes_on.{read_stays}
-use Rattle.step_laws.proofs.Issues.{Issues, quiet, issues}
+use Rattle.event_laws.proofs.Still_world.{off_number}
+use Rattle.event_laws.proofs.Controls_same.{controls_same, controls_stays, known_same}
 use Rattle.event_laws.proofs.Grant_takes.{quiet_grants}
-use Rattle.step_laws.proofs.Effect_took_is.{TakenIs, AnswerIs}
-use Rattle.step_laws.proofs.Limit_goes.{limit_comes, limit_goes}
+use Rattle.event_laws.proofs.Last_quiet.{last_quiet, last_grows}
+use Rattle.motion_laws.proofs.Motion.{place, place_at_most}
+use Rattle.motion_laws.proofs.Head_step.{enter_once}
+use Rattle.invariant_laws.proofs.Invariant.{AuthorityIs, AuthIs, AuthTrue, FrontsAre, SomeIs, ControlIs, EntryHeld, LimitIs, Authorized}
+use Rattle.invariant_laws.proofs.One_route.{numbered_controls, on_controls}
+use Rattle.front_laws.proofs.Taken_counts.{cuts}
+use Rattle.authority_laws.proofs.Authority_stays.{off_before, path_stays, first_is_stays, Going}
+use Rattle.authority_laws.proofs.New_auth.{Sent, never}
+use Rattle.authority_laws.proofs.Longest_stays.{control_still}
+use Rattle.authority_laws.proofs.Last_stays.{sent_calm, again_is}
+use Rattle.authority_laws.proofs.Shorter_new.{shorter_is}
+use Rattle.authority_laws.proofs.Auths_stay.{AuthsStay, held_stays, auths_stay, none_true}
+use Rattle.authority_laws.proofs.Control_new.{new_stay, reads_new, new_is, control_new}
+use Rattle.authority_laws.proofs.Shrink_taken.{TakenNow, end_place, head_before, reads_cut, control_cut, auths_cut, limit_cut, entry_cut}
 use Rattle.authority_laws.proofs.Rear_grows.{rear_grows}
+use Rattle.step_laws.proofs.Issues.{Issues, quiet, longer, again, shorter, cut}
+use Rattle.step_laws.proofs.Effect_took_is.{TakenIs, TookIs}
+use Rattle.step_laws.proofs.Stays_next.{Stays, quiet_stays, again_stays, shorter_stays, stays_auths, stays_reads, free_idle, free_unread}
+use Rattle.step_laws.proofs.Limit_goes.{limit_comes, limit_goes}
 
 -- A declared train has a length.
 
@@ -66,13 +71,6 @@ long_next line t s x b k h = by_facts (facts_of t s) refl
         let e = ap (λ (g : Option Facts). (facts_or g).long) now_ in
         omega (arith, e, l)
 
--- What is counted.
-
-pub uncounted_next : (line : Line) (t : ℕ) (s : Story) (x : Transition) → Authorized line t s → AnswerIs t s x.took → entered t (x ∷ s) ≡ false → counted line t (x ∷ s) ≡ 0
-uncounted_next line t s x k answer off =
-    let before = off_before t x s off in
-    counted_unanswered line t x s k.unshrunk (answer before) ∙ k.uncounted before
-
 -- Who controls.
 
 pub alone_next : (line : Line) (t : ℕ) (s : Story) (x : Transition) → Authorized line t s → ((y : ℕ) → grants_entry y t x ≡ true → y ≡ zone_id line) → (y : ℕ) → controls y t (x ∷ s) ≡ true → y ≡ zone_id line
@@ -80,124 +78,163 @@ alone_next line t s x k granted y h = by_test (grants_entry y t x)
     (λ g. granted y g)
     (λ n. k.zone_alone y (sym (controls_same y t x s n) ∙ h))
 
+-- of a message that is sent, and of none
+sent_true : (line : Line) (t : ℕ) (s : Story) (x : Transition) (n : Sent line t s x) → AuthIs line t (x ∷ s) n.number n.authority → AllIn (AuthTrue line t (x ∷ s)) x.issued
+unfolding AllIn
+sent_true line t s x n i = subst (λ (l : List (ℕ × Msg)). AllIn (AuthTrue line t (x ∷ s)) l) (sym n.issued) ((λ y. i), tt)
+
+none_now : (line : Line) (t : ℕ) (s : Story) (x : Transition) → NoAuth t x.issued → AllIn (AuthTrue line t (x ∷ s)) x.issued
+none_now line t s x q = in_all_weaker (λ m. is_auth t m ≡ false) (AuthTrue line t (x ∷ s)) (none_true line t (x ∷ s)) x.issued q
+
 module _ (line : Line) (t : ℕ) (s : Story) (x : Transition) (valid : is_line line ≡ true) (k : Authorized line t s) (fronts : controls (zone_id line) t s ≡ true → FrontsAre line t s)
     (going : Going line t s x) where
+  -- a train that is controlled was, where entry is not granted
+  still_free : NoAuth t x.issued → controls (zone_id line) t (x ∷ s) ≡ false → controls (zone_id line) t s ≡ false
+  still_free none h = sym (controls_same (zone_id line) t x s (quiet_grants (zone_id line) t x none)) ∙ h
+
+  taken_controls : TakenNow line t s x → controls (zone_id line) t s ≡ true
+  taken_controls n = on_controls line t s k n.on
+
+  lost : (G : Type 0) → controls (zone_id line) t s ≡ true → controls (zone_id line) t (x ∷ s) ≡ false → G
+  lost G c h = absurd (let y : true ≡ false = sym (controls_stays (zone_id line) t x s c) ∙ h in cc)
+
   pub unknown_next : Issues line t s x → controls (zone_id line) t (x ∷ s) ≡ false → last_issued t (x ∷ s) ≡ 0
-  unknown_next (issues n) h = absurd (let c : true ≡ false = sym n.controlled ∙ h in cc)
-  unknown_next (quiet q) h =
-      let none = k.unknown (sym (controls_same (zone_id line) t x s (quiet_grants (zone_id line) t x q)) ∙ h) in
-      last_quiet t x s q ∙ none
+  unknown_next (quiet q uncut) h = last_quiet t x s q ∙ k.unknown (still_free q h)
+  unknown_next (longer n) h = absurd (let c : true ≡ false = sym n.controlled ∙ h in cc)
+  unknown_next (again n) h = lost (last_issued t (x ∷ s) ≡ 0) n.control h
+  unknown_next (shorter n) h = lost (last_issued t (x ∷ s) ≡ 0) n.control h
+  unknown_next (cut n) h = lost (last_issued t (x ∷ s) ≡ 0) (taken_controls n) h
 
   -- what is read of its numbers
-  pub unshrunk_next : Issues line t s x → (account line t (x ∷ s)).shrink ≡ 0
-  unshrunk_next (quiet q) = unshrunk_quiet line t s x k q
-  unshrunk_next (issues n) = (new_top line t s x k going.moved n).unshrunk
+  pub unshrunk_next : Issues line t s x → controls (zone_id line) t (x ∷ s) ≡ false → (account line t (x ∷ s)).shrink ≡ 0
+  unshrunk_next (quiet q uncut) h = free_idle line t s x k (still_free q h) q uncut
+  unshrunk_next (longer n) h = absurd (let c : true ≡ false = sym n.controlled ∙ h in cc)
+  unshrunk_next (again n) h = lost ((account line t (x ∷ s)).shrink ≡ 0) n.control h
+  unshrunk_next (shorter n) h = lost ((account line t (x ∷ s)).shrink ≡ 0) n.control h
+  unshrunk_next (cut n) h = lost ((account line t (x ∷ s)).shrink ≡ 0) (taken_controls n) h
 
   pub unread_next : Issues line t s x → controls (zone_id line) t (x ∷ s) ≡ false → (i : ℕ) → (account line t (x ∷ s)).reads i ≡ None
-  unread_next (issues n) h i = absurd (let c : true ≡ false = sym n.controlled ∙ h in cc)
-  unread_next (quiet q) h i = unread_quiet line t s x k q (sym (controls_same (zone_id line) t x s (quiet_grants (zone_id line) t x q)) ∙ h) i
+  unread_next (quiet q uncut) h i = free_unread line t s x k (still_free q h) q uncut i
+  unread_next (longer n) h i = absurd (let c : true ≡ false = sym n.controlled ∙ h in cc)
+  unread_next (again n) h i = lost ((account line t (x ∷ s)).reads i ≡ None) n.control h
+  unread_next (shorter n) h i = lost ((account line t (x ∷ s)).reads i ≡ None) n.control h
+  unread_next (cut n) h i = lost ((account line t (x ∷ s)).reads i ≡ None) (taken_controls n) h
 
-  pub reads_next : Issues line t s x → (i : ℕ) → SomeIs (AuthorityIs line t (x ∷ s)) ((account line t (x ∷ s)).reads i)
-  reads_next (issues n) i = reads_new line t s x k going.moved n i
-  reads_next (quiet q) i = by_test (controls (zone_id line) t s)
-      (λ c. reads_still line t s x valid k going c q i)
-      (λ n. subst (SomeIs (AuthorityIs line t (x ∷ s))) (sym (unread_quiet line t s x k q n i)) tt)
+  pub reads_next : Issues line t s x → (i : ℕ) → counted line t (x ∷ s) ≤ i → i ≤ last_issued t (x ∷ s) → SomeIs (AuthorityIs line t (x ∷ s)) ((account line t (x ∷ s)).reads i)
+  reads_next (quiet q uncut) i b l = by_test (controls (zone_id line) t s)
+      (λ c. stays_reads line t s x k going (quiet_stays line t s x k going c q uncut) i b l)
+      (λ n. subst (SomeIs (AuthorityIs line t (x ∷ s))) (sym (free_unread line t s x k n q uncut i)) tt)
+  reads_next (longer n) i b l = reads_new line t s x k going n i b l
+  reads_next (again n) i b l = stays_reads line t s x k going (again_stays line t s x k going n) i b l
+  reads_next (shorter n) i b l = stays_reads line t s x k going (shorter_stays line t s x k going n) i b l
+  reads_next (cut n) i b l = reads_cut line t s x k going (taken_controls n) n i b l
 
-  -- a later number ends no nearer
-  read_most : ((i : ℕ) → SomeIs (AuthorityIs line t (x ∷ s)) ((account line t (x ∷ s)).reads i)) → (m : ℕ) → end_read line t (x ∷ s) m ≤ longest_end line t (x ∷ s)
-  read_most reads m = most ((account line t (x ∷ s)).reads m) (reads m)
-    where
-      most : (r : Option Authority) → SomeIs (AuthorityIs line t (x ∷ s)) r → end_or_0 (seg_len line) (journey line t (x ∷ s)) r ≤ longest_end line t (x ∷ s)
-      most None h = omega arith
-      most (Some a) h = h.within
+  -- the longest authority is cut, or it is not
+  by_issues : (G : Type 0) → Issues line t s x → (cuts line t x s ≡ false → G) → (TakenNow line t s x → G) → G
+  by_issues G (quiet q uncut) f g = f uncut
+  by_issues G (longer n) f g = f (sent_calm line t s x n.sent)
+  by_issues G (again n) f g = f (sent_calm line t s x n.sent)
+  by_issues G (shorter n) f g = f (sent_calm line t s x n.sent)
+  by_issues G (cut n) f g = g n
 
-  none_read : (m : ℕ) → (account line t (x ∷ s)).reads m ≡ None → end_read line t (x ∷ s) m ≡ 0
-  none_read m h = ap (λ (r : Option Authority). end_or_0 (seg_len line) (journey line t (x ∷ s)) r) h
-
-  pub stay_next : controls (zone_id line) t s ≡ true → Issues line t s x → AuthsStay line t s x
-  stay_next c (quiet q) = quiet_stay line t s x valid k going c q
-  stay_next c (issues n) = new_stay line t s x k going c n
-
-  old_rising : controls (zone_id line) t s ≡ true → Issues line t s x → last_number t s ≤ last_number t (x ∷ s) → (m n : ℕ) → last_number t (x ∷ s) ≤ m → m ≤ n → n ≤ last_issued t s → end_read line t (x ∷ s) m ≤ end_read line t (x ∷ s) n
-  old_rising c i numbers m n a b d =
-      let stay = stay_next c i in
-      let r = k.rising m n (omega (arith, a, numbers)) b d in
-      let e = read_stays line t x s k stay.first m (omega (arith, b, d)) in
-      let f = read_stays line t x s k stay.first n d in
-      omega (arith, r, e, f)
-
-  pub rising_next : Issues line t s x → last_number t s ≤ last_number t (x ∷ s) → (m n : ℕ) → last_number t (x ∷ s) ≤ m → m ≤ n → n ≤ last_issued t (x ∷ s) → end_read line t (x ∷ s) m ≤ end_read line t (x ∷ s) n
-  rising_next (quiet q) numbers m n a b d =
-      let last : last_issued t (x ∷ s) ≡ last_issued t s = last_quiet t x s q in
-      by_test (controls (zone_id line) t s)
-      (λ c. old_rising c (quiet q) numbers m n a b (omega (arith, d, last)))
-      (λ o. let z = none_read m (unread_quiet line t s x k q o m) in omega (arith, z))
-  rising_next (issues new) numbers m n a b d =
-      let last = last_new line t s x k going.moved new in
-      by_test (nat_le n (last_issued t s))
-      (λ y. by_test (controls (zone_id line) t s)
-      (λ c. old_rising c (issues new) numbers m n a b (grind (arith, nat_tests)))
-      (λ o.
-      let none = k.unknown o in
-      let le : n ≤ last_issued t s = grind (arith, nat_tests) in
-      let e : m ≡ n = omega (arith, b, le, none) in
-      let f = ap (λ (i : ℕ). end_read line t (x ∷ s) i) e in
-      omega (arith, f)))
-      (λ y.
-      let far : last_issued t s < n = grind (arith, nat_tests) in
-      let more = new.no_more in
-      let e : n ≡ new.number = omega (arith, far, more, d, last) in
-      let f = ap (λ (i : ℕ). end_read line t (x ∷ s) i) e ∙ read_new line t s x k going.moved new in
-      let g = read_most (reads_next (issues new)) m in
-      omega (arith, f, g))
+  -- what is kept where it is not
+  pub stay_next : controls (zone_id line) t s ≡ true → Issues line t s x → cuts line t x s ≡ false → AuthsStay line t s x
+  stay_next c (quiet q uncut) h = stays_auths line t s x k going (quiet_stays line t s x k going c q uncut)
+  stay_next c (longer n) h = new_stay line t s x k going n c
+  stay_next c (again n) h = stays_auths line t s x k going (again_stays line t s x k going n)
+  stay_next c (shorter n) h = stays_auths line t s x k going (shorter_stays line t s x k going n)
+  stay_next c (cut n) h = absurd (let e : true ≡ false = sym n.cut ∙ h in cc)
 
   granted_once : controls (zone_id line) t s ≡ true → Issues line t s x → grants_entry (zone_id line) t x ≡ false
-  granted_once c (quiet q) = quiet_grants (zone_id line) t x q
-  granted_once c (issues n) = n.granted c
+  granted_once c (quiet q uncut) = quiet_grants (zone_id line) t x q
+  granted_once c (longer n) = n.granted c
+  granted_once c (again n) = n.refused (zone_id line)
+  granted_once c (shorter n) = n.refused (zone_id line)
+  granted_once c (cut n) = quiet_grants (zone_id line) t x n.quiet
+
+  -- where a shrink counts as taken the train is before its end, and with it the least front
+  pub place_cut : (c : controls (zone_id line) t s ≡ true) → TakenNow line t s x → place t s ≤ shrink_place line t s
+  place_cut c n =
+      let h = head_before line t s x k going c n in
+      let on = n.on in
+      let p : place t s ≡ head t s = rw on refl in
+      omega (arith, h, p)
+
+  least_before : (c : controls (zone_id line) t s ≡ true) → Issues line t s x → (fronts c).lo ≤ longest_end line t (x ∷ s)
+  least_before c i = by_issues ((fronts c).lo ≤ longest_end line t (x ∷ s)) i
+      (λ uncut.
+      let grown = (stay_next c i uncut).ends in
+      let w = (fronts c).within in
+      let o = (fronts c).ordered in
+      omega (arith, grown, w, o))
+      (λ n.
+      let low = (fronts c).low in
+      let past = place_at_most t (now_of (zone_id line) s) s going.motion in
+      let p = place_cut c n in
+      let e = end_place line t s x k going c n in
+      omega (arith, low, past, p, e))
 
   pub rear_next : Issues line t s x → controls (zone_id line) t s ≡ true → least_rear line (zone_id line) t s ≤ least_rear line (zone_id line) t (x ∷ s)
   rear_next i c =
       let g = granted_once c i in
-      rear_grows line t s x (fronts c) g (known_same (zone_id line) t x s g) (stay_next c i).ends
+      rear_grows line t s x (fronts c) g (known_same (zone_id line) t x s g) (least_before c i)
 
-  pub controlled_next : Issues line t s x → controls (zone_id line) t (x ∷ s) ≡ true → ControlIs line t (x ∷ s)
-  controlled_next (issues n) h = control_new line t s x k going.moved n (rear_next (issues n))
-  controlled_next (quiet q) h =
-      let g = quiet_grants (zone_id line) t x q in
-      let c = sym (controls_same (zone_id line) t x s g) ∙ h in
-      control_quiet line t s x valid k going c q (known_same (zone_id line) t x s g) (rear_next (quiet q) c)
+  module _ (uncounted : entered t (x ∷ s) ≡ false → counted line t (x ∷ s) ≡ 0) where
+    stays_control : Issues line t s x → Stays line t s x k → ControlIs line t (x ∷ s)
+    stays_control i a =
+        let rears = rear_next i a.control in
+        control_still line t s x k going a.control a.first a.top a.issued valid (known_same (zone_id line) t x s (granted_once a.control i)) rears uncounted (a.shrunk rears)
+
+    pub controlled_next : Issues line t s x → controls (zone_id line) t (x ∷ s) ≡ true → ControlIs line t (x ∷ s)
+    controlled_next (quiet q uncut) h =
+        let c = sym (controls_same (zone_id line) t x s (quiet_grants (zone_id line) t x q)) ∙ h in
+        stays_control (quiet q uncut) (quiet_stays line t s x k going c q uncut)
+    controlled_next (longer n) h = control_new line t s x k going n (rear_next (longer n))
+    controlled_next (again n) h = stays_control (again n) (again_stays line t s x k going n)
+    controlled_next (shorter n) h = stays_control (shorter n) (shorter_stays line t s x k going n)
+    controlled_next (cut n) h =
+        let c = taken_controls n in
+        control_cut line t s x k going c n (known_same (zone_id line) t x s (granted_once c (cut n))) (rear_next (cut n) c)
 
   -- the authorities that were issued before, and now
-  auths_before : Issues line t s x → AllIssued (AuthTrue line t (x ∷ s)) s
-  auths_before i = by_test (controls (zone_id line) t s)
-      (λ c. auths_stay line t s x k (stay_next c i) k.auths)
-      (λ n. all_weaker (λ m. is_auth t m ≡ false) (AuthTrue line t (x ∷ s)) (none_true line t (x ∷ s)) s (never line t s k n))
+  module _ (numbers : last_number t s ≤ last_number t (x ∷ s)) where
+    auths_before : Issues line t s x → AllIssued (AuthTrue line t (x ∷ s)) s
+    auths_before i = by_issues (AllIssued (AuthTrue line t (x ∷ s)) s) i
+        (λ uncut. by_test (controls (zone_id line) t s)
+        (λ c. auths_stay line t s x k (stay_next c i uncut) numbers k.auths)
+        (λ n. all_weaker (λ m. is_auth t m ≡ false) (AuthTrue line t (x ∷ s)) (none_true line t (x ∷ s)) s (never line t s k n)))
+        (λ n. auths_cut line t s x k going (taken_controls n) n k.auths)
 
-  one_true : (n : NewAuth line t s x) → AuthIs line t (x ∷ s) n.number n.authority → AllIn (AuthTrue line t (x ∷ s)) x.issued
-  unfolding AllIn
-  one_true n i = subst (λ (l : List (ℕ × Msg)). AllIn (AuthTrue line t (x ∷ s)) l) (sym n.issued) ((λ y. i), tt)
+    auths_now : Issues line t s x → AllIn (AuthTrue line t (x ∷ s)) x.issued
+    auths_now (quiet q uncut) = none_now line t s x q
+    auths_now (longer n) = sent_true line t s x n.sent (new_is line t s x k going n)
+    auths_now (again n) = sent_true line t s x n.sent (again_is line t s x k going n (k.controlled n.control).issued)
+    auths_now (shorter n) = sent_true line t s x n.sent (shorter_is line t s x k going n)
+    auths_now (cut n) = none_now line t s x n.quiet
 
-  auths_now : Issues line t s x → AllIn (AuthTrue line t (x ∷ s)) x.issued
-  auths_now (quiet q) = in_all_weaker (λ m. is_auth t m ≡ false) (AuthTrue line t (x ∷ s)) (none_true line t (x ∷ s)) x.issued q
-  auths_now (issues n) = one_true n (new_is line t s x k going.moved n)
-
-  pub auths_next : Issues line t s x → AllIssued (AuthTrue line t (x ∷ s)) (x ∷ s)
-  unfolding AllIssued
-  auths_next i = (auths_now i, auths_before i)
+    pub auths_next : Issues line t s x → AllIssued (AuthTrue line t (x ∷ s)) (x ∷ s)
+    unfolding AllIssued
+    auths_next i = (auths_now i, auths_before i)
 
   -- What the train holds.
 
   entry_stays : Issues line t s x → (h : HeldPath) → EntryHeld line t s h → EntryHeld line t (x ∷ s) h
-  entry_stays i h e =
-      let stay = stay_next (numbered_controls line t s k e.issued) i in
-      let d = e.authority.declared in
+  entry_stays i h e = by_issues (EntryHeld line t (x ∷ s) h) i
+      (λ uncut.
+      let stay = stay_next c i uncut in
+      let d = e.path.declared in
       let a = e.issued in
       let b = last_grows t x s in
       record {
-        authority = held_stays line t s x k stay h.authority e.authority;
+        path = path_stays line t x s stay.first h.authority (stay.moved d) e.path;
+        authority = λ off. held_stays line t s x k stay h.authority (e.authority (off_before t x s off));
         first = first_is_stays line t x s h.authority d e.first;
         issued = omega (arith, a, b);
-      }
+      })
+      (λ n. entry_cut line t s x k going (taken_controls n) n h e)
+    where
+      c : controls (zone_id line) t s ≡ true
+      c = numbered_controls line t s k e.issued
 
   -- the first authority number 1 that it takes
   taken_first : TakenIs line t s (world_took x) → entry_authority t s ≡ None → (h : HeldPath) → taken_entry t (world_took x) ≡ Some h → EntryHeld line t s h
@@ -207,7 +244,8 @@ module _ (line : Line) (t : ℕ) (s : Story) (x : Transition) (valid : is_line l
       let path : taken_path t (world_took x) ≡ Some h = rw y at is in
       let i = taken.is h path in
       let known = taken.known in
-      record { authority = i.authority; first = i.first off number; issued = omega (arith, known, number) })
+      let z = off_number t s off in
+      record { path = i.path; authority = λ o. i.ahead (omega (arith, z, number)); first = i.first off number; issued = omega (arith, known, number) })
       (λ n. absurd (let c : None ≡ Some h = rw n at is in cc))
     where
       off : entered t s ≡ false
@@ -247,17 +285,19 @@ module _ (line : Line) (t : ℕ) (s : Story) (x : Transition) (valid : is_line l
         let g = some_held (entry_authority t s) refl h in
         numbered_controls line t s k (k.entry g.0 g.1).issued
 
-    pub limit_after : Issues line t s x → TakenIs line t s (world_took x) → entered t (x ∷ s) ≡ true → LimitIs line t (x ∷ s)
-    limit_after i taken on = by_test (enters t x.event)
+    pub limit_after : Issues line t s x → TookIs line t s x → entered t (x ∷ s) ≡ true → LimitIs line t (x ∷ s)
+    limit_after i took on = by_issues (LimitIs line t (x ∷ s)) i
+        (λ uncut. by_test (enters t x.event)
         (λ y.
         let some = holds x.event a.entering y in
         let c = on_controlled some in
         let g = some_held (entry_authority t s) refl some in
-        limit_comes line t s x k c (stay_next c i) y (enter_once t s x.event a.entering y) g.0 g.1)
+        limit_comes line t s x k c (stay_next c i uncut) y (enter_once t s x.event a.entering y) g.0 g.1)
         (λ n.
         let was = sym (entered_same t x s n) ∙ on in
         let c = on_controlled (k.came_on was) in
-        limit_goes line t s x k c (stay_next c i) going.motion n was a.stopping taken)
+        limit_goes line t s x k c (stay_next c i uncut) going.motion n was a.stopping took))
+        (λ n. limit_cut line t s x k going (taken_controls n) n)
 
     pub last_next : TakenIs line t s (world_took x) → last_number t (x ∷ s) ≤ last_issued t (x ∷ s)
     unfolding last_number

@@ -1,21 +1,16 @@
 -- Invariant is kept by every event.
-use Rattle.std.proofs.Common.{◌≡◌, ℕ, List, [], ◌∷◌, true, ◌&&◌, arith}
+use Rattle.std.proofs.Common.{ℕ, List, [], ◌∷◌}
 use Rattle.definitions.specs.declared.event.Event.{Event}
 use Rattle.definitions.specs.Track.{Line}
 use Rattle.definitions.specs.Safe.{IsLineOfOneZone, Kept}
 use Rattle.definitions.specs.Story.{Story}
 use Rattle.definitions.specs.Steps.{effects, story_of}
-use Rattle.std.specs.Prelude.{nat_eq}
-use Rattle.definitions.specs.Fold.{account}
-use Rattle.definitions.specs.Zones.{zone_id}
-use Rattle.front_laws.proofs.Taken_counts.{none_taken}
-use Rattle.front_laws.proofs.Fronts_step.{takes_some}
 use Rattle.event_laws.proofs.Admitted.{Admitted, admitted}
 use Rattle.motion_laws.proofs.Motion.{Timed, motion_start, motion_step, heads_grow}
 use Rattle.motion_laws.proofs.Timed_story.{timed_step, timed_story}
 use Rattle.invariant_laws.proofs.Invariant.{Invariant}
 use Rattle.invariant_laws.proofs.Journeys_stay.{journeys_start, journeys_stay}
-use Rattle.step_laws.proofs.Authorized_step.{authorized_start, authorized_step, ends_grow}
+use Rattle.step_laws.proofs.Authorized_step.{authorized_start, authorized_step, end_grows, end_cut}
 use Rattle.front_laws.proofs.Reports_step.{reports_start, reports_step}
 use Rattle.front_laws.proofs.Fronts_step.{fronts_start, fronts_step}
 
@@ -37,12 +32,8 @@ invariant_step line s e l a timed k t =
       journeys = journeys_stay line t (effects line s e) s (k t).motion (k t).authorized (heads_grow line t s e a (k t).motion) (k t).journeys;
       authorized = authorized;
       reports = reports_step line s e l a timed k t;
-      fronts = fronts_step line s e l a timed (timed_step line s e a timed) k t motion authorized
-          (λ c n. ends_grow line s e l a timed k t c) (λ c y. absurd (shrinks y));
+      fronts = fronts_step line s e l a timed (timed_step line s e a timed) k t motion authorized (end_grows line s e l a timed k t) (end_cut line s e l a timed k t);
     }
-  where
-    shrinks : (nat_eq (effects line s e).actor (zone_id line) && takes_some t (account line t s) (effects line s e).took) ≡ true → ⊥
-    shrinks y = let n = none_taken t (account line t s) (effects line s e).took (k t).authorized.unshrunk in grind arith
 
 pub invariant_story : (line : Line) (t : ℕ) (es : List Event) → IsLineOfOneZone line → Kept line es → Invariant line t (story_of line es)
 unfolding story_of Kept

@@ -6,7 +6,7 @@ use Rattle.std.proofs.lemmas.List.{length-append}
 use Rattle.list_laws.proofs.By_test.{by_test}
 use Rattle.track_points.specs.declared.ids.DirSeg.{DirSeg}
 use Rattle.track_points.specs.declared.path.Path.{Path}
-use Rattle.track_points.specs.Points.{Layout, Point, total, place_of_last, end_place}
+use Rattle.track_points.specs.Points.{Layout, total, place_of_last, end_place}
 use Rattle.definitions.specs.declared.outcome.Obstacle.{Obstacle}
 use Rattle.definitions.specs.declared.outcome.Obstacle.TheVariants.{AskEnds, TrackEnds, Held, Closed, PathFull}
 use Rattle.definitions.specs.Track.{Line, seg_len, layout, last_step}
@@ -123,17 +123,19 @@ reach_within layout ask z h =
     omega arith)
 
 -- an ask of a way, granted or not, reaches no further than its steps and the asked ones
-pub reach_granted : (line : Line) (ready silent : Bool) (path : Path) (asked : List DirSeg) (to : ℕ) (bars : Bars) → 0 < length path.steps.items
+pub reach_granted : (line : Line) (ready pending silent : Bool) (path : Path) (asked : List DirSeg) (to : ℕ) (bars : Bars) → 0 < length path.steps.items
     → end_place (seg_len line) path ≤ total (seg_len line) path.steps.items
-    → end_place (seg_len line) path + (reach_from line ready silent (Some path) asked to bars).distance ≤ total (seg_len line) (asked_way path.steps.items asked)
-reach_granted line ready silent path asked to bars z h =
+    → end_place (seg_len line) path + (reach_from line ready pending silent (Some path) asked to bars).distance ≤ total (seg_len line) (asked_way path.steps.items asked)
+reach_granted line ready pending silent path asked to bars z h =
     let t = total_append (seg_len line) path.steps.items (further path.steps.items asked) in
     let e : end_place (seg_len line) path ≤ total (seg_len line) (asked_way path.steps.items asked) = omega arith in
     let l : 0 < length (asked_way path.steps.items asked) = omega (arith, length-append path.steps.items (further path.steps.items asked)) in
     by_test (ready && continues line path.steps.items asked)
-    (λ y. by_test silent
-    (λ s. rw (y, s) (omega arith))
-    (λ s. rw (y, s) (reach_within (layout line) (ask_of (seg_len line) path asked to bars) l e)))
+    (λ y. by_test pending
+    (λ p. rw (y, p) (omega arith))
+    (λ p. by_test silent
+    (λ s. rw (y, p, s) (omega arith))
+    (λ s. rw (y, p, s) (reach_within (layout line) (ask_of (seg_len line) path asked to bars) l e))))
     (λ n. rw n (omega arith))
 
 -- the reach ends on the first 24 steps

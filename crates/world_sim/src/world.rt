@@ -31,7 +31,7 @@ use std::alloc::{AllocError, Global};
 use std::marker::Model;
 use thiserror::Error;
 use track_points::path::copy_steps;
-use track_points::{DirSeg, Path, SegId, TrainId, ZoneId};
+use track_points::{DirSeg, Path, TrainId, ZoneId};
 use way_path::on_steps::zone_of;
 
 /// The number of the least premise that an event breaks.
@@ -104,12 +104,12 @@ fn ask(
     );
 }
 
-/// Sends an order about a segment to the segment's zone.
-fn order(line: &Line, time: u64, seg: SegId, order: Order, outs: &mut Outs)
+/// Sends an order to a zone.
+fn order(time: u64, zone: u8, order: Order, outs: &mut Outs)
     requires { outs.old ≡ nothing }
-    ensures { outs.new ≡ telling (zone_of line.now seg.0) (msg.Order time order) }
+    ensures { outs.new ≡ telling zone (msg.Order time order) }
 {
-    outs.send(zone_of(line, seg), Msg::Order { time, order });
+    outs.send(zone, Msg::Order { time, order });
 }
 
 /// A train answers an authority of a number: by what it decided, or as it was answered last; not at all before it has come
@@ -551,8 +551,11 @@ impl World {
                     train: *train,
                 },
             ),
-            Event::Close(seg) => order(line, self.clock, *seg, Order::Close(*seg), outs),
-            Event::Open(seg) => order(line, self.clock, *seg, Order::Open(*seg), outs),
+            Event::Close(seg) => order(self.clock, zone_of(line, *seg), Order::Close(*seg), outs),
+            Event::Open(seg) => order(self.clock, zone_of(line, *seg), Order::Open(*seg), outs),
+            Event::Shorten(zone, train, step, off) => {
+                order(self.clock, zone.0, Order::Short(*train, *step, *off), outs)
+            }
             Event::Noise(to, _, bytes) => hear(*to, bytes.as_slice(), outs),
             _ => {}
         }

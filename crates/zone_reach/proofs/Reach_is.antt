@@ -16,7 +16,7 @@ use Rattle.zone_reach.specs.Closed.{first_closed}
 use Rattle.zone_reach.proofs.First_held_is.{held_behind, first_held_is}
 use Rattle.zone_reach.proofs.First_closed_is.{closed_behind, first_closed_is}
 use Rattle.list_laws.proofs.By_test.{by_test}
-use Rattle.definitions.specs.declared.outcome.Obstacle.TheVariants.{AskEnds, TrackEnds, Held, Closed, NotJoined, Silent, PathFull}
+use Rattle.definitions.specs.declared.outcome.Obstacle.TheVariants.{AskEnds, TrackEnds, Held, Closed, Pending, NotJoined, Silent, PathFull}
 use Rattle.way_laws.proofs.First_is.{first_is, first_only}
 use Rattle.zone_reach.proofs.Stop_is.{IsAt, at_place, at_nearest, IsStop, stop_more, stop_same, stop_first, end_from, end_below, end_within, bar_from, bar_below, full_from, full_below, full_within}
 use Rattle.way_laws.proofs.Cut_front.{last_place, total_front}
@@ -101,9 +101,10 @@ module _ (line : Line) (z : ℕ) (trains : List Controlled) (closed : List Bool)
 
   stop_is : IsStop (layout line) ask_on obstacles stop_there
   stop_is =
-      let joined = stop_same (layout line) ask_on (AskEnds ∷ TrackEnds ∷ Held ∷ Closed ∷ []) NotJoined _ bars_there (λ p. refl) in
-      let silent = stop_same (layout line) ask_on (AskEnds ∷ TrackEnds ∷ Held ∷ Closed ∷ NotJoined ∷ []) Silent _ joined (λ p. refl) in
-      stop_more (layout line) ask_on (AskEnds ∷ TrackEnds ∷ Held ∷ Closed ∷ NotJoined ∷ Silent ∷ []) PathFull (nat_lt 24 (length asked)) (total (seg_len line) (take 24 asked)) _ silent
+      let pending = stop_same (layout line) ask_on (AskEnds ∷ TrackEnds ∷ Held ∷ Closed ∷ []) Pending _ bars_there (λ p. refl) in
+      let joined = stop_same (layout line) ask_on (AskEnds ∷ TrackEnds ∷ Held ∷ Closed ∷ Pending ∷ []) NotJoined _ pending (λ p. refl) in
+      let silent = stop_same (layout line) ask_on (AskEnds ∷ TrackEnds ∷ Held ∷ Closed ∷ Pending ∷ NotJoined ∷ []) Silent _ joined (λ p. refl) in
+      stop_more (layout line) ask_on (AskEnds ∷ TrackEnds ∷ Held ∷ Closed ∷ Pending ∷ NotJoined ∷ Silent ∷ []) PathFull (nat_lt 24 (length asked)) (total (seg_len line) (take 24 asked)) _ silent
       (at_place (nat_lt 24 (length asked)) limit (total (seg_len line) (take 24 asked)))
 
   -- the end of the ask stands, and so no stop is beyond it

@@ -148,8 +148,8 @@ pub fn barred(obstacle: Obstacle) -> Reach
 }
 
 /// How far an ask reaches beyond the end of a way. An ask of a train that is not ready, or that does not continue the
-/// way, is barred, and so is one of a train that is silent. On the zone's own track the ways of the other trains and the
-/// closed segments are obstacles.
+/// way, is barred, and so is one of a train whose shrink is unanswered, and one of a train that is silent. On the zone's own
+/// track the ways of the other trains and the closed segments are obstacles.
 #[tactic(auto, using(way_laws::proofs::Cut_front::total_front))]
 pub fn reach_from(
     line: &Line,
@@ -157,6 +157,7 @@ pub fn reach_from(
     bars: Barring,
     train: TrainId,
     ready: bool,
+    pending: bool,
     silent: bool,
     path: &Path,
     asked: &[DirSeg],
@@ -164,7 +165,7 @@ pub fn reach_from(
 ) -> Reach
     requires few { length asked.now ≤ 24 }
     requires fits { path_fits (seg_len line.now) path.now ≡ true }
-    ensures reach { reach_value result ≡ reach_from line.now ready silent (Some path.now) asked.now to (barring_plain line.now zone bars.entry.trains.now bars.entry.closed.now train.0) }
+    ensures reach { reach_value result ≡ reach_from line.now ready pending silent (Some path.now) asked.now to (barring_plain line.now zone bars.entry.trains.now bars.entry.closed.now train.0) }
     ensures fits { ReachFits line.now path.now asked.now result.distance }
 {
     let steps = path.steps.as_slice();
@@ -172,6 +173,9 @@ pub fn reach_from(
     let way = all.as_slice();
     if !(ready && continues(line, steps, asked, way)) {
         return barred(Obstacle::NotJoined);
+    }
+    if pending {
+        return barred(Obstacle::Pending);
     }
     if silent {
         return barred(Obstacle::Silent);

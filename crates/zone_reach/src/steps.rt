@@ -1,10 +1,11 @@
 //! Asked steps: what continues a way, places on steps, and ways with further steps.
-ghost use Rattle.std.specs.Prelude.{◌≡◌, ◌≤◌, ◌<◌, ◌+◌, ◌*◌, ◌++◌, ◌^◌, length, take, true};
+ghost use Rattle.std.specs.Prelude.{◌≡◌, ◌≤◌, ◌<◌, ◌+◌, ◌*◌, ◌++◌, ◌^◌, length, take, true, IfSome};
 ghost use Rattle.track_points.specs.Points.{step_eq, place_of_last, visits, no_segment_twice};
 ghost use Rattle.definitions.specs.Track.{seg_len, joined, last_step};
 ghost use Rattle.way_path.specs.Ways.{OnLine, EndsWithPath};
 ghost use Rattle.plain_state.specs.Zone.{longer_way};
 ghost use Rattle.zone_reach.specs.Reach.{with_steps, ReachFits};
+ghost use Rattle.definitions.specs.Steps.{place_of_step};
 ghost use Rattle.definitions.specs.Limit.{beyond, or_all, further, asked_way, continues};
 
 use arrayvec::ArrayVec;
@@ -109,6 +110,25 @@ pub fn place_of_last(line: &Line, steps: &[DirSeg], off: u32) -> u64
         [] => off as u64,
         [_] => off as u64,
         [step, rest @ ..] => length_of(line, step.seg) as u64 + place_of_last(line, rest, off),
+    }
+}
+
+/// The place of an offset of a step, be it beyond the step's length; none where the step is not among these.
+#[tactic(auto, unfolding(definitions::specs::Steps::place_of_step))]
+pub fn place_of_step(line: &Line, steps: &[DirSeg], step: DirSeg, off: u32) -> Option<u64>
+    requires { length steps.now ≤ 48 }
+    ensures place { result ≡ place_of_step (seg_len line.now) steps.now step off }
+    ensures most { IfSome result (λ p. p ≤ 10000000 * length steps.now + off) }
+{
+    match steps {
+        [] => None,
+        [first, rest @ ..] => {
+            if same_step(*first, step) {
+                return Some(off as u64);
+            }
+            let place = place_of_step(line, rest, step, off)?;
+            Some(length_of(line, first.seg) as u64 + place)
+        }
     }
 }
 

@@ -8,15 +8,18 @@ use Rattle.list_laws.proofs.By_test.{by_test, none_of}
 use Rattle.track_points.specs.declared.ids.TrainId.{TrainId}
 use Rattle.definitions.specs.declared.message.Msg.{Msg}
 use Rattle.definitions.specs.declared.message.Msg.TheVariants as msg
+use Rattle.definitions.specs.declared.message.Order.{Order}
+use Rattle.definitions.specs.declared.message.Order.TheVariants as orders
 use Rattle.definitions.specs.declared.outcome.Outcome.{Outcome}
 use Rattle.definitions.specs.Track.{Line, seg_len, silent_after}
 use Rattle.definitions.specs.Fronts.{silent_by}
 use Rattle.definitions.specs.Control.{message_time}
 use Rattle.definitions.specs.Steps.{Effect}
 use Rattle.plain_state.specs.declared.Controlled.{Controlled}
-use Rattle.plain_state.specs.Zone.{find_controlled, change_controlled, placed_train, entered_or, train_at_entry, full, holder_plain, reach_plain, uses_mark, trains_acted_on, grown_train, plain_alarms, is_alarmed, report_or, alarm_of, lengthened, answer, reported_by, fresh_train}
+use Rattle.plain_state.specs.Zone.{find_controlled, change_controlled, placed_train, entered_or, train_at_entry, full, holder_plain, reach_plain, uses_mark, trains_acted_on, grown_train, plain_alarms, is_alarmed, report_or, alarm_of, lengthened, answer, reported_by, shortened, trains_ordered, fresh_train}
 use Rattle.plain_state.specs.Refinement.{Distinct}
 use Rattle.plain_state.proofs.Found_changed.{distinct_change, distinct_mapped, distinct_placed}
+use Rattle.zone_state.proofs.Shortened_same.{shortened_same}
 use Rattle.zone_state.specs.Zone.{falls_silent, alarms_of}
 
 no_some : (x : Controlled) → Some x ≡ None → ⊥
@@ -174,6 +177,12 @@ module _ (line : Line) (z before clock : ℕ) (old : List Controlled) (d : Disti
   entered_follows (Some u) x h r l = grown_follows
   entered_follows None x h r l = placed_follows x h r l
 
+  ordered_follows : (order : Order) → Follows line z before clock old (trains_ordered (seg_len line) order (map (grown_train clock) old))
+  ordered_follows (orders.Short t st off) = changed_follows t.0 (shortened (seg_len line) st off)
+      (λ x. (shortened_same (seg_len line) st off x).id)
+      (λ x. let e = (shortened_same (seg_len line) st off x).report in rw e refl)
+  ordered_follows _ = grown_follows
+
   pub after_follows : (closed : List Bool) (m : Msg) → clock ≡ max before (message_time m) → Follows line z before clock old (trains_acted_on line z clock (map (grown_train clock) old) closed m)
   after_follows closed (msg.EntryAsk t time long error speed equipped step) c =
       let trains = map (grown_train clock) old in
@@ -184,7 +193,7 @@ module _ (line : Line) (z before clock : ℕ) (old : List Controlled) (d : Disti
       (λ k. by_test (nat_lt (seg_len line step.seg.0) long)
       (λ y. rw (n, k, y) grown_follows)
       (λ i. let a = length_mapped (grown_train clock) old in
-      rw (n, k, i) (entered_follows (holder_plain line z trains step.seg.0) (train_at_entry clock t (seg_len line step.seg.0) long error speed step) (none_of _ n) refl (grind (arith, nat_tests))))))
+      rw (n, k, i) (entered_follows (holder_plain line z trains step.seg.0) (train_at_entry clock t (seg_len line step.seg.0) long error speed equipped step) (none_of _ n) refl (grind (arith, nat_tests))))))
   after_follows closed (msg.Ask t time steps to) c =
       by_test (nat_eq (reach_plain line z clock (map (grown_train clock) old) closed t.0 steps.items to).distance 0)
       (λ y. rw y grown_follows)
@@ -194,6 +203,7 @@ module _ (line : Line) (z before clock : ℕ) (old : List Controlled) (d : Disti
       (λ y. rw y (changed_follows t.0 (reported_by (seg_len line) time mark offset integrity) (λ x. refl) (λ x. rw c (reported_silent line before time x.report))))
       (λ n. rw n grown_follows)
   after_follows closed (msg.Answer t time number taken) c = changed_follows t.0 (answer (seg_len line) number taken) (λ x. refl) (λ x. refl)
+  after_follows closed (msg.Order time order) c = ordered_follows order
   after_follows closed _ c = grown_follows
 
 -- growth changes no number

@@ -1,5 +1,5 @@
 -- A train by its index, and what holds of all trains.
-use Rattle.std.proofs.Common.{◌≡◌, ℕ, suc, zero, subst, ◌+◌, ◌<◌, ◌≤◌, Bool, true, false, List, [], ◌∷◌, length, take, drop, ◌++◌, get_or, Result, Ok, Err, is_ok, Option, Some, None, is_some, refl, sym, ap, ◌∙◌, arith, nat_eq, nat_lt, nat_le}
+use Rattle.std.proofs.Common.{◌≡◌, ℕ, suc, zero, subst, ◌+◌, ◌<◌, ◌≤◌, Bool, true, false, List, [], ◌∷◌, length, take, drop, ◌++◌, get_or, Result, Ok, Err, is_ok, Some, None, is_some, refl, sym, ap, ◌∙◌, arith, nat_eq, nat_lt, nat_le}
 use Rattle.std.proofs.Math.ListN.{set}
 use Rattle.std.proofs.Math.Seq.{take-append_seam}
 use Rattle.std.specs.List.{list_all, position, position_or_len}
@@ -8,16 +8,15 @@ use Rattle.std.proofs.lemmas.List.Quantifiers.{position-Some}
 use Rattle.std.proofs.lemmas.List.Sums.{fails_before_first, position_or_len_is}
 use Rattle.list_laws.proofs.By_test.{by_test}
 use Rattle.track_points.specs.declared.ids.DirSeg.{DirSeg}
-use Rattle.track_points.specs.Points.{Lengths, total, place_of_last, end_place, visits, no_segment_twice}
+use Rattle.track_points.specs.Points.{total, place_of_last, end_place, visits, no_segment_twice}
 use Rattle.definitions.specs.Track.{Line, seg_len, joined, last_step}
 use Rattle.definitions.specs.Steps.{entry_path}
 use Rattle.definitions.specs.Ways.{path_in_range}
 use Rattle.way_path.specs.declared.way.WayFault.{WayFault}
 use Rattle.way_path.specs.declared.way.WayFault.TheVariants.{NotJoined, Repeated, OutOfRange, Throats, Full}
 use Rattle.way_path.specs.Ways.{PlacedWay, Makes}
-use Rattle.plain_state.specs.declared.Shrink.{Shrink}
 use Rattle.plain_state.specs.declared.Controlled.{Controlled}
-use Rattle.plain_state.specs.Zone.{find_controlled, change_controlled, answered_by, answer}
+use Rattle.plain_state.specs.Zone.{find_controlled, change_controlled}
 use Rattle.zone_reach.specs.Reach.{path_fits}
 use Rattle.zone_state.specs.Zone.{is_train, Ascend, TrainFits, AllFit, IsPlace}
 
@@ -149,34 +148,6 @@ unfolding AllFit
 fit_set line clock [] i x f h = tt
 fit_set line clock (y ∷ ys) zero x f h = (h, f.1)
 fit_set line clock (y ∷ ys) (suc i) x f h = (f.0, fit_set line clock ys i x f.1 h)
-
--- an answer to a train without a shrink
-one_answered : (len : Lengths) (number : ℕ) (taken : Bool) (x : Controlled) → x.pending ≡ None → answered_by number x ≡ answer len number taken x
-one_answered len number taken x none = sym (ap by_shrink none ∙ ap (λ (p : Option Shrink). record (answered_by number x) { pending = p }) (sym none))
-  where
-    by_shrink : Option Shrink → Controlled
-    by_shrink p = answer len number taken (record x { pending = p })
-
-pub answered_is : (line : Line) (clock : ℕ) (len : Lengths) (number : ℕ) (taken : Bool) (t : ℕ) (xs : List Controlled) → AllFit line clock xs
-    → change_controlled t (answered_by number) xs ≡ change_controlled t (answer len number taken) xs
-unfolding change_controlled AllFit
-answered_is line clock len number taken t [] f = refl
-answered_is line clock len number taken t (x ∷ xs) f = by_test (nat_eq x.id.0 t)
-    (λ y. rw y (ap (λ (z : Controlled). z ∷ xs) (one_answered len number taken x f.0.unshrunk)))
-    (λ n. rw n (ap (λ (ys : List Controlled). x ∷ ys) (answered_is line clock len number taken t xs f.1)))
-
-pub fit_counted : (line : Line) (clock number : ℕ) (x : Controlled) → TrainFits line clock x → TrainFits line clock (answered_by number x)
-fit_counted line clock number x f = record {
-  way = f.way;
-  on_line = f.on_line;
-  ends = f.ends;
-  long = f.long;
-  behind = f.behind;
-  ordered = f.ordered;
-  ahead = f.ahead;
-  at = f.at;
-  unshrunk = f.unshrunk;
-}
 
 -- at its own time, and back
 fit_own : (line : Line) (clock : ℕ) (x : Controlled) → TrainFits line clock x → TrainFits line x.fronts.at x

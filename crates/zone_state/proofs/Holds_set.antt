@@ -16,6 +16,10 @@ hold_at line z (x ∷ xs) [] i d e l h = absurd h
 hold_at line z (x ∷ xs) (p ∷ ps) zero d e l h = h.0
 hold_at line z (x ∷ xs) (p ∷ ps) (suc i) d e l h = hold_at line z xs ps i d e (omega arith) h.1
 
+pub hold_found : (line : Line) (z : ℕ) (xs : List Controlled) (ps : List Points) (i : ℕ) (x : Controlled) (hold : Points) → i < length xs → x ≡ get_or xs i x → hold ≡ get_or ps i hold → HoldsAre line z xs ps
+    → IsHold line z x hold
+hold_found line z xs ps i x hold l e k h = rw (e, k) (hold_at line z xs ps i x hold l h)
+
 pub holds_set : (line : Line) (z : ℕ) (xs : List Controlled) (ps : List Points) (i : ℕ) (x : Controlled) (p : Points) → HoldsAre line z xs ps → IsHold line z x p → HoldsAre line z (set xs i x) (set ps i p)
 unfolding HoldsAre
 holds_set line z [] [] i x p h k = tt

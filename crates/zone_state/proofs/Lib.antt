@@ -8,3 +8,6 @@ pub mod Placed_is
 pub mod Stepped_follows
 pub mod Holds_set
 pub mod Kept_put
+pub mod Checked_fits
+pub mod Granted_is
+pub mod Shortened_same

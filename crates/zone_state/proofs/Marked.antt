@@ -1,13 +1,11 @@
 -- What a report does, by its train.
-use Rattle.std.proofs.Common.{◌≡◌, ℕ, true, false, Option, Some, None, sym, ap, ◌∙◌}
+use Rattle.std.proofs.Common.{◌≡◌, ℕ, true, false, Some, None}
 use Rattle.std.specs.Prelude.{ℤ}
 use Rattle.std.proofs.lemmas.Option.{same_Some}
 use Rattle.list_laws.proofs.By_test.{by_test}
 use Rattle.track_points.specs.Points.{Lengths}
 use Rattle.way_path.specs.Ways.{PlacedWay, plain_way, place_of}
-use Rattle.plain_state.specs.declared.Shrink.{Shrink}
-use Rattle.plain_state.specs.declared.Controlled.{Controlled}
-use Rattle.plain_state.specs.Zone.{has_mark, reported_place, check, number_passed, unpassed}
+use Rattle.plain_state.specs.Zone.{has_mark, reported_place}
 
 -- a place on the way is there where the way has the step
 pub marked : (len : Lengths) (way : PlacedWay) (mark : ℕ) (offset place : ℤ) → place_of len way mark offset ≡ Some place
@@ -22,10 +20,3 @@ not_marked len way mark offset h =
     by_test (has_mark (plain_way way) mark)
     (λ y. absurd (let z : Some (reported_place len (plain_way way) mark offset) ≡ None = rw y at h in cc))
     (λ n. n)
-
--- a train without a shrink has none that its fronts have passed
-pub unchecked : (x : Controlled) → x.pending ≡ None → check x ≡ x
-unchecked x none = ap by_shrink none ∙ ap (λ (p : Option Shrink). record x { pending = p }) (sym none)
-  where
-    by_shrink : Option Shrink → Controlled
-    by_shrink p = record x { answered = number_passed x.fronts.lo p x.answered; pending = unpassed x.fronts.lo p }

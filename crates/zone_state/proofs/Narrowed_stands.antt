@@ -11,7 +11,8 @@ use Rattle.envelope.specs.Ends.{least_left, greatest_left, narrowed}
 use Rattle.envelope.proofs.Kept_hull.{grown_hull, kept_hull, kept_none, are_ends}
 use Rattle.definitions.specs.Track.{Line}
 use Rattle.plain_state.specs.declared.Controlled.{Controlled}
-use Rattle.plain_state.specs.Zone.{grown_train, narrowed_train}
+use Rattle.plain_state.specs.Zone.{grown_train, narrowed_train, check}
+use Rattle.zone_state.proofs.Checked_fits.{checked_fits}
 use Rattle.zone_state.specs.Zone.{TrainFits, TrainStands, AllFit, CanGrow, AllCanGrow, ZoneKept, passed}
 
 pub silent_is : (ms report clock : ℕ) → nat_lt ms (clock - report) ≡ nat_lt (report + ms) clock
@@ -87,7 +88,8 @@ grown_fits line before clock x f = record {
   ordered = let o = f.ordered in let a = f.ahead in omega arith;
   ahead = omega arith;
   at = refl;
-  unshrunk = f.unshrunk;
+  ledger = f.ledger;
+  shrink = f.shrink;
 }
 
 pub all_grown_fit : (line : Line) (before clock : ℕ) (xs : List Controlled) → AllFit line before xs → AllFit line clock (map (grown_train clock) xs)
@@ -167,9 +169,10 @@ left_of old est err moved integrity o =
     (λ x. rw x record { least = omega arith; ordered = o; greatest = omega arith; at = refl })
 
 pub narrowed_stands : (line : Line) (clock : ℕ) (place : ℤ) (time : ℕ) (integrity : Bool) (x : Controlled) → TrainFits line clock x
-    → TrainStands line (narrowed_train place time integrity x)
+    → TrainStands line (check (narrowed_train place time integrity x))
 narrowed_stands line clock place time integrity x f =
     let l = left_of x.fronts place x.error (farthest_move x.speed (x.fronts.at - time)) integrity f.ordered in
+    let k = checked_fits x.fronts.lo (narrowed_train place time integrity x).fronts.lo x.way.end x.ledger.pending x.ledger refl f.ledger f.shrink in
     record {
       way = f.way;
       on_line = f.on_line;
@@ -178,7 +181,8 @@ narrowed_stands line clock place time integrity x f =
       behind = let b = f.behind in let a = l.least in omega arith;
       ordered = l.ordered;
       ahead = let a = f.ahead in let b = l.greatest in omega arith;
-      unshrunk = f.unshrunk;
+      ledger = k.0;
+      shrink = k.1;
     }
 
 pub narrowed_at : (place : ℤ) (time : ℕ) (integrity : Bool) (x : Controlled) → x.fronts.lo ≤ x.fronts.hi → (narrowed_train place time integrity x).fronts.at ≡ x.fronts.at

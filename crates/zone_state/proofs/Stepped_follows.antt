@@ -1,10 +1,10 @@
 -- What one message gives.
-use Rattle.std.proofs.Common.{◌≡◌, ℕ, ◌≤◌, Bool, true, false, List, ◌++◌, length, Option, Some, None, is_some, refl, ◌∙◌, arith, nat_eq, nat_lt}
+use Rattle.std.proofs.Common.{◌≡◌, ℕ, ◌+◌, ◌≤◌, Bool, true, false, ◌&&◌, List, ◌++◌, length, Option, Some, None, is_some, refl, ◌∙◌, arith, nat_eq, nat_lt, nat_le}
 use Rattle.track_points.specs.declared.ids.DirSeg.{DirSeg}
 use Rattle.track_points.specs.declared.ids.TrainId.{TrainId}
 use Rattle.std.specs.Prelude.{ℤ}
 use Rattle.list_laws.proofs.By_test.{by_test}
-use Rattle.track_points.specs.Points.{Lengths}
+use Rattle.track_points.specs.Points.{Lengths, end_place}
 use Rattle.definitions.specs.declared.message.Msg.{Msg}
 use Rattle.definitions.specs.declared.message.Msg.TheVariants as msg
 use Rattle.definitions.specs.declared.message.Order.{Order}
@@ -12,10 +12,11 @@ use Rattle.definitions.specs.declared.message.Order.TheVariants as orders
 use Rattle.definitions.specs.Track.{Line, seg_len, silent_after}
 use Rattle.definitions.specs.Ways.{PlainWay}
 use Rattle.definitions.specs.Limit.{Reach}
-use Rattle.definitions.specs.Steps.{Effect, zone_entry, zone_ask, zone_order, enter_or_held}
+use Rattle.definitions.specs.Steps.{Effect, zone_entry, zone_ask, enter_or_held, place_of_step, shorten_at}
+use Rattle.way_path.specs.Ways.{plain_way}
 use Rattle.plain_state.specs.declared.Controlled.{Controlled}
 use Rattle.plain_state.specs.Refinement.{Distinct}
-use Rattle.plain_state.specs.Zone.{PlainZone, find_controlled, full, holder_plain, reach_plain, last_found, way_found, uses_mark, place_found, again_found, zone_answer, zone_acts_on, zone_gives, zone_take_effect, trains_stepped, clock_after}
+use Rattle.plain_state.specs.Zone.{PlainZone, find_controlled, full, holder_plain, reach_plain, last_found, way_found, uses_mark, place_found, again_found, short_found, order_answer, zone_answer, zone_acts_on, zone_gives, zone_take_effect, trains_stepped, clock_after}
 use Rattle.zone_state.specs.Zone.{alarms_of}
 use Rattle.zone_state.proofs.After_follows.{Follows, grown_follows, after_follows}
 
@@ -41,14 +42,29 @@ place_one : (len : Lengths) (z time mark : ℕ) (offset : ℤ) (integrity : Bool
 place_one len z time mark offset integrity None = omega arith
 place_one len z time mark offset integrity (Some x) = omega arith
 
-again_one : (t : TrainId) (x : Option Controlled) → AtMostOne (again_found t x)
-again_one t None = omega arith
-again_one t (Some x) = by_test (nat_lt x.answered x.last) (λ y. rw y (omega arith)) (λ n. rw n (omega arith))
+again_one : (len : Lengths) (t : TrainId) (x : Option Controlled) → AtMostOne (again_found len t x)
+again_one len t None = omega arith
+again_one len t (Some x) = by_test (nat_lt x.ledger.answered x.ledger.last) (λ y. rw y (omega arith)) (λ n. rw n (omega arith))
 
-order_one : (z : ℕ) (order : Order) → AtMostOne (zone_order z order)
-order_one z (orders.Close seg) = omega arith
-order_one z (orders.Open seg) = omega arith
-order_one z _ = omega arith
+place_short_one : (len : Lengths) (z : ℕ) (t : TrainId) (number : ℕ) (way : PlainWay) (start front : ℕ) (p : Option ℕ) → AtMostOne (shorten_at len z t number way start front p)
+place_short_one len z t number way start front None = omega arith
+place_short_one len z t number way start front (Some p) =
+    by_test (nat_le front (start + p) && nat_lt p (end_place len way.path)) (λ y. rw y (omega arith)) (λ n. rw n (omega arith))
+
+short_one : (len : Lengths) (z : ℕ) (t : TrainId) (x : Option Controlled) (st : DirSeg) (off : ℕ) → AtMostOne (short_found len z t x st off)
+short_one len z t None st off = omega arith
+short_one len z t (Some x) st off =
+    by_test x.equipped
+    (λ y. by_test (is_some x.ledger.pending)
+    (λ s. rw (y, s) (omega arith))
+    (λ n. rw (y, n) (place_short_one len z t (x.ledger.last + 1) (plain_way x.way) 0 x.fronts.hi (place_of_step len x.way.path.steps.items st off))))
+    (λ n. rw n (omega arith))
+
+order_one : (len : Lengths) (z : ℕ) (trains : List Controlled) (order : Order) → AtMostOne (order_answer len z trains order)
+order_one len z trains (orders.Close seg) = omega arith
+order_one len z trains (orders.Open seg) = omega arith
+order_one len z trains (orders.Short t st off) = short_one len z t (find_controlled t.0 trains) st off
+order_one len z trains _ = omega arith
 
 answer_one : (line : Line) (z clock : ℕ) (trains : List Controlled) (closed : List Bool) (m : Msg) → AtMostOne (zone_answer line z clock trains closed m)
 answer_one line z clock trains closed (msg.EntryAsk t time long error speed equipped step) =
@@ -59,8 +75,8 @@ answer_one line z clock trains closed (msg.Report t time mark offset integrity) 
     by_test (uses_mark (find_controlled t.0 trains) mark)
     (λ y. rw y (place_one (seg_len line) z time mark offset integrity (find_controlled t.0 trains)))
     (λ n. rw n (omega arith))
-answer_one line z clock trains closed (msg.Time time t) = again_one t (find_controlled t.0 trains)
-answer_one line z clock trains closed (msg.Order time order) = order_one z order
+answer_one line z clock trains closed (msg.Time time t) = again_one (seg_len line) t (find_controlled t.0 trains)
+answer_one line z clock trains closed (msg.Order time order) = order_one (seg_len line) z trains order
 answer_one line z clock trains closed _ = omega arith
 
 pub gives_one : (line : Line) (z : PlainZone) (from : ℕ) (m : Msg) → AtMostOne (zone_gives line z from m)

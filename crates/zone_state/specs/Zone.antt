@@ -1,20 +1,24 @@
 -- What a zone keeps, and what holds of it.
-use Rattle.std.specs.Prelude.{◌≡◌, ℕ, List, [], ◌∷◌, ◌+◌, ◌<◌, ◌≤◌, length, map, filter, slice_index_or, Bool, true, ◌&&◌, not, nat_eq, nat_lt, max, Option, Some, None, Result, Ok, Err, ⊤}
+use Rattle.std.specs.Prelude.{◌≡◌, ℕ, List, [], ◌∷◌, ◌+◌, ◌<◌, ◌≤◌, length, map, filter, slice_index_or, if◌then◌else◌, Bool, true, ◌&&◌, not, nat_eq, nat_lt, nat_le, max, Option, Some, None, is_some, Result, Ok, Err, ⊤}
 use Rattle.std.specs.List.{list_all, position}
 use Rattle.std.specs.List.Sorted.{IsNonDecreasingBy}
 use Rattle.track_points.specs.declared.ids.DirSeg.{DirSeg}
 use Rattle.track_points.specs.declared.ids.TrainId.{TrainId}
 use Rattle.track_points.specs.declared.path.Path.{Path}
-use Rattle.track_points.specs.Points.{Layout, Point}
+use Rattle.track_points.specs.Points.{Lengths, Layout, Point, end_place}
 use Rattle.track_points.specs.Sets.{Points, set_has}
 use Rattle.definitions.specs.Track.{Line, seg_len, has_segment, last_step}
 use Rattle.definitions.specs.declared.message.Msg.{Msg}
 use Rattle.definitions.specs.declared.message.Msg.TheVariants as msg
 use Rattle.definitions.specs.declared.outcome.Obstacle.{Obstacle}
+use Rattle.definitions.specs.declared.outcome.ShortRefusal.{ShortRefusal}
+use Rattle.definitions.specs.declared.outcome.ShortRefusal.TheVariants.{Unequipped, Pending, Place}
 use Rattle.definitions.specs.declared.outcome.Outcome.{Outcome}
 use Rattle.definitions.specs.declared.outcome.Outcome.TheVariants as out
-use Rattle.definitions.specs.Steps.{Effect}
+use Rattle.definitions.specs.Steps.{Effect, place_of_step}
 use Rattle.way_path.specs.Ways.{IsWay, OnLine, EndsWithPath}
+use Rattle.authority_ledger.specs.declared.ledger.Shrink.{Shrink}
+use Rattle.authority_ledger.specs.Ledger.{IsLedger}
 use Rattle.plain_state.specs.declared.Controlled.{Controlled}
 use Rattle.plain_state.specs.Zone.{PlainZone, hold_has, envelope_has, alarm_of, grown_train, fresh_train}
 use Rattle.plain_state.specs.Refinement.{Distinct}
@@ -35,6 +39,11 @@ pub record AreKept (trains : List Controlled) (holds : List Points) (fresh : Boo
   pub ascend : Ascend trains
   pub all : fresh ≡ list_all fresh_train trains
 
+-- an unanswered shrink ends not before the least front, and before the way does
+abbrev pub ShrinkFits : ℕ → ℕ → Option Shrink → Type 0
+ShrinkFits lo end None = ⊤
+ShrinkFits lo end (Some s) = (lo ≤ s.end) × (s.end < end)
+
 -- what holds of a train that the zone controls, on its line, at the zone's Now
 pub record TrainFits (line : Line) (clock : ℕ) (x : Controlled) : Type 0 where
   pub way : IsWay x.way
@@ -45,7 +54,8 @@ pub record TrainFits (line : Line) (clock : ℕ) (x : Controlled) : Type 0 where
   pub ordered : x.fronts.lo ≤ x.fronts.hi
   pub ahead : x.fronts.hi ≤ x.way.end
   pub at : x.fronts.at ≡ clock
-  pub unshrunk : x.pending ≡ None
+  pub ledger : IsLedger x.ledger
+  pub shrink : ShrinkFits x.fronts.lo x.way.end x.ledger.pending
 
 unfoldable pub AllFit : Line → ℕ → List Controlled → Type 0
 AllFit line clock [] = ⊤
@@ -81,7 +91,8 @@ pub record TrainStands (line : Line) (x : Controlled) : Type 0 where
   pub behind : x.way.path.from + x.train_length ≤ x.fronts.lo
   pub ordered : x.fronts.lo ≤ x.fronts.hi
   pub ahead : x.fronts.hi ≤ x.way.end
-  pub unshrunk : x.pending ≡ None
+  pub ledger : IsLedger x.ledger
+  pub shrink : ShrinkFits x.fronts.lo x.way.end x.ledger.pending
 
 -- what the growth of fronts wants of a train, whose fronts are those at a time
 pub record CanGrow (before : ℕ) (x : Controlled) : Type 0 where
@@ -139,9 +150,23 @@ ReachFitsFound line (Some path) asked distance = ReachFits line path asked dista
 -- the authority over the way of a train, and its line
 abbrev pub path_granted : ℕ → TrainId → Controlled → Obstacle → Effect
 path_granted z t x obstacle = record {
-  issued = (0, msg.Auth t x.last x.way.mark x.way.path) ∷ [];
-  lines = out.Grant (record { 0 = z }) t x.last (last_step x.way.path.steps.items) x.way.path.to obstacle ∷ [];
+  issued = (0, msg.Auth t x.ledger.last x.way.mark x.way.path) ∷ [];
+  lines = out.Grant (record { 0 = z }) t x.ledger.last (last_step x.way.path.steps.items) x.way.path.to obstacle ∷ [];
 }
+
+-- where a short order lets the way of a train end, or why it does not
+abbrev pub end_at : ℕ → ℕ → ℕ → Result ℕ ShortRefusal
+end_at front end p = if nat_le front p && nat_lt p end then Ok p else Err Place
+
+abbrev pub end_at_place : ℕ → ℕ → Option ℕ → Result ℕ ShortRefusal
+end_at_place front end None = Err Place
+end_at_place front end (Some p) = end_at front end p
+
+abbrev pub short_end : Lengths → DirSeg → ℕ → Controlled → Result ℕ ShortRefusal
+short_end len st off x =
+    if not x.equipped then Err Unequipped
+    else if is_some x.ledger.pending then Err Pending
+    else end_at_place x.fronts.hi (end_place len x.way.path) (place_of_step len x.way.path.steps.items st off)
 
 -- a request for entry is at a declared segment
 abbrev pub entry_declared : Line → Msg → Bool

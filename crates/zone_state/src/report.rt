@@ -7,6 +7,7 @@ ghost use Rattle.way_path.specs.Ways.{place_of};
 ghost use Rattle.plain_state.specs.Zone.{find_controlled, change_controlled, uses_mark, place_found, place_of_train, narrowed_train, reported_by, cut_at_rear, fresh_train};
 ghost use Rattle.zone_state.specs.Zone.{TrainFits, TrainStands, IsHold, ZoneFits};
 
+use crate::shrinks::check;
 use crate::trains::hold_of;
 use crate::zone::{Zone, fresh_train};
 use line_map::Line;
@@ -58,6 +59,7 @@ fn cut(line: &Line, zone: u8, x: &mut Controlled) -> PointSet
     let dropped = x.way.set_from(line, rear);
     x.fronts.lo -= dropped;
     x.fronts.hi -= dropped;
+    x.ledger.shift(dropped);
     hold_of(line, zone, &x.way)
 }
 
@@ -80,6 +82,7 @@ fn use_report(
     ensures hold { IsHold line.now zone x.new result }
 {
     narrow(x, place, report.time, report.integrity);
+    check(x);
     tell_place(line, zone, x, outs);
     cut(line, zone, x)
 }

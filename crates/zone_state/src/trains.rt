@@ -7,14 +7,16 @@ ghost use Rattle.definitions.specs.declared.item.Item.{Item};
 ghost use Rattle.definitions.specs.Track.{owner, seg_len, layout, has_segment};
 ghost use Rattle.definitions.specs.Steps.{nothing, zone_ask, zone_entry, deny, refuse, entry_path, enter_or_held};
 ghost use Rattle.way_path.specs.Ways.{IsWay, OnLine, EndsWithPath};
-ghost use Rattle.plain_state.specs.Zone.{find_controlled, change_controlled, answered_by, lengthened, last_found, path_found, way_found, again_found, placed_train, reach_plain, holder_plain, full, fresh_train, trains_asked, trains_entered, train_at_entry, entry_way};
+ghost use Rattle.plain_state.specs.Zone.{find_controlled, change_controlled, answer, lengthened, last_found, path_found, way_found, again_found, placed_train, reach_plain, holder_plain, full, fresh_train, trains_asked, trains_entered, train_at_entry, entry_way};
 ghost use Rattle.zone_reach.specs.Reach.{reach_value, ReachFits};
 ghost use Rattle.plain_state.specs.declared.Controlled.{Controlled};
 ghost use Rattle.zone_state.specs.Zone.{TrainFits, AllFit, IsHold, ZoneFits, Ascend, GoesIn, IsPlace, is_train, ReachFitsFound, path_granted};
 
 use crate::clock::is_silent;
+use crate::shrinks::{last_path, take_answer};
 use crate::zone::{Zone, fresh_train};
 use arrayvec::ArrayVec;
+use authority_ledger::Ledger;
 use definitions::outcome::{Obstacle, Refusal};
 use envelope::Fronts;
 use line_map::Line;
@@ -50,14 +52,6 @@ fn place_among(trains: &[Controlled], train: TrainId) -> Result<usize, usize>
     }
 }
 
-fn count_answer(x: &mut Controlled, number: u32)
-    ensures { x.new ≡ answered_by number x.old }
-{
-    if number > x.answered && number <= x.last {
-        x.answered = number;
-    }
-}
-
 fn denied(zone: u8, train: TrainId, reach: Reach, outs: &mut Outs)
     requires { outs.old ≡ nothing }
     ensures { outs.new ≡ deny zone train (reach_value reach) }
@@ -78,6 +72,7 @@ pub fn hold_of(line: &Line, zone: u8, way: &Way) -> PointSet
 fn lengthen(line: &Line, zone: u8, x: &mut Controlled, asked: &[DirSeg], distance: u32) -> PointSet
     requires fits { TrainFits line.now x.old.fronts.at x.old }
     requires fresh { fresh_train x.old ≡ true }
+    requires none { x.old.ledger.pending ≡ None }
     requires some { 0 < distance }
     requires reaches { ReachFits line.now x.old.way.path asked.now distance }
     ensures next { x.new ≡ lengthened (seg_len line.now) asked.now distance x.old }
@@ -85,7 +80,7 @@ fn lengthen(line: &Line, zone: u8, x: &mut Controlled, asked: &[DirSeg], distanc
     ensures hold { IsHold line.now zone x.new result }
 {
     lengthen_way(line, &mut x.way, asked, distance);
-    x.last += 1;
+    let _ = x.ledger.issue_longer();
     hold_of(line, zone, &x.way)
 }
 
@@ -98,7 +93,7 @@ fn granted(zone: u8, train: TrainId, x: &Controlled, obstacle: Obstacle, outs: &
     outs.tell(Outcome::Grant(
         ZoneId(zone),
         train,
-        x.last,
+        x.ledger.last(),
         last_step(path.steps.as_slice()),
         path.to,
         obstacle,
@@ -107,7 +102,7 @@ fn granted(zone: u8, train: TrainId, x: &Controlled, obstacle: Obstacle, outs: &
         0,
         Msg::Auth {
             train,
-            number: x.last,
+            number: x.ledger.last(),
             mark: x.way.mark(),
             path: path.copy(),
         },
@@ -124,6 +119,8 @@ pub struct Request {
     pub error: u32,
     /// In mm/s.
     pub speed: u16,
+    /// Whether it tells where it is.
+    pub equipped: bool,
     pub step: DirSeg,
 }
 
@@ -167,7 +164,7 @@ fn train_at_entry(line: &Line, clock: u64, request: Request, room: u32) -> Contr
     requires room { room ≡ seg_len line.now request.step.seg.0 }
     requires long { request.train_length ≤ room }
     requires some { 1 ≤ request.train_length }
-    ensures next { result ≡ train_at_entry clock request.train room request.train_length request.error request.speed request.step }
+    ensures next { result ≡ train_at_entry clock request.train room request.train_length request.error request.speed request.equipped request.step }
     ensures fits { TrainFits line.now clock result }
 {
     let long = request.train_length;
@@ -183,9 +180,8 @@ fn train_at_entry(line: &Line, clock: u64, request: Request, room: u32) -> Contr
             at: clock,
         },
         report: clock,
-        last: 1,
-        answered: 0,
-        pending: None,
+        equipped: request.equipped,
+        ledger: Ledger::first(),
     }
 }
 
@@ -234,14 +230,22 @@ impl Zone {
         }
     }
 
-    /// Counts an answer of a train, to a number that was issued and is above the greatest counted.
-    pub(crate) fn answer(&mut self, train: TrainId, number: u32)
-        requires { list_all fresh_train self.old.plain.trains ≡ true }
-        ensures next { self.new.plain ≡ record self.old.plain { trains = change_controlled train.0 (answered_by number) self.old.plain.trains } }
-        ensures fits { (line : List Item) → ZoneFits line self.old → ZoneFits line self.new }
+    /// A train answers a number.
+    pub(crate) fn answer(&mut self, line: &Line, train: TrainId, number: u32, taken: bool)
+        requires fits { ZoneFits line.now self.old }
+        requires fresh { list_all fresh_train self.old.plain.trains ≡ true }
+        ensures next { self.new.plain ≡ record self.old.plain { trains = change_controlled train.0 (answer (seg_len line.now) number taken) self.old.plain.trains } }
+        ensures fits { ZoneFits line.now self.new }
     {
         if let Some(i) = self.index_of(train) {
-            count_answer(&mut self.trains[i], number);
+            take_answer(
+                line,
+                self.id,
+                &mut self.trains[i],
+                &mut self.holds[i],
+                number,
+                taken,
+            );
             self.fresh = fresh_train(&self.trains[i]);
         }
     }
@@ -257,14 +261,17 @@ impl Zone {
     {
         let trains = self.trains.as_slice();
         let x = &trains[i];
-        let ready = x.answered > 0;
+        let ready = x.ledger.answered() > 0;
+        let pending = x.ledger.pending().is_some();
         let silent = is_silent(line.silent(), x.report, self.clock);
         let path = x.way.path();
         let bars = Barring {
             trains,
             closed: &self.closed,
         };
-        reach_from(line, self.id, bars, train, ready, silent, path, asked, to)
+        reach_from(
+            line, self.id, bars, train, ready, pending, silent, path, asked, to,
+        )
     }
 
     /// Answers an ask of a train.
@@ -298,22 +305,22 @@ impl Zone {
     }
 
     /// Sends the last authority of a train again where its number is not answered.
-    pub(crate) fn send_again(&self, train: TrainId, outs: &mut Outs)
+    pub(crate) fn send_again(&self, line: &Line, train: TrainId, outs: &mut Outs)
         requires { outs.old ≡ nothing }
-        ensures { outs.new ≡ again_found train (find_controlled train.0 self.now.plain.trains) }
+        ensures { outs.new ≡ again_found (seg_len line.now) train (find_controlled train.0 self.now.plain.trains) }
     {
         let Some(i) = self.index_of(train) else {
             return;
         };
         let x = &self.trains[i];
-        if x.answered < x.last {
+        if x.ledger.answered() < x.ledger.last() {
             outs.send(
                 0,
                 Msg::Auth {
                     train,
-                    number: x.last,
+                    number: x.ledger.last(),
                     mark: x.way.mark(),
-                    path: x.way.path().copy(),
+                    path: last_path(line, x),
                 },
             );
         }
@@ -339,7 +346,7 @@ impl Zone {
         requires empty { outs.old ≡ nothing }
         requires fits { ZoneFits line.now self.old }
         ensures gives { outs.new ≡ zone_entry self.old.plain.id (is_some (find_controlled request.train.0 self.old.plain.trains)) (full self.old.plain.trains) (seg_len line.now request.step.seg.0) request.train request.train_length request.step (holder_plain line.now self.old.plain.id self.old.plain.trains request.step.seg.0) }
-        ensures next { self.new.plain ≡ record self.old.plain { trains = trains_entered self.old.plain.clock (is_some (find_controlled request.train.0 self.old.plain.trains)) (full self.old.plain.trains) (seg_len line.now request.step.seg.0) request.train request.train_length request.error request.speed request.step (holder_plain line.now self.old.plain.id self.old.plain.trains request.step.seg.0) self.old.plain.trains } }
+        ensures next { self.new.plain ≡ record self.old.plain { trains = trains_entered self.old.plain.clock (is_some (find_controlled request.train.0 self.old.plain.trains)) (full self.old.plain.trains) (seg_len line.now request.step.seg.0) request.train request.train_length request.error request.speed request.equipped request.step (holder_plain line.now self.old.plain.id self.old.plain.trains request.step.seg.0) self.old.plain.trains } }
         ensures fits { ZoneFits line.now self.new }
     {
         let train = request.train;

@@ -108,7 +108,7 @@ fn fresh_message(message: &Msg) -> bool
 pub(crate) fn fresh_train(x: &Controlled) -> bool
     ensures { result ≡ fresh_train x.now }
 {
-    fresh_number(x.last) && fresh_number(x.answered) && fresh_mark(x.way.mark())
+    fresh_number(x.ledger.last()) && fresh_number(x.ledger.answered()) && fresh_mark(x.way.mark())
 }
 
 impl Zone {
@@ -168,6 +168,7 @@ impl Zone {
                 length,
                 error,
                 speed,
+                equipped,
                 step,
                 ..
             } => {
@@ -176,6 +177,7 @@ impl Zone {
                     train_length: *length,
                     error: *error,
                     speed: *speed,
+                    equipped: *equipped,
                     step: *step,
                 };
                 self.enter(line, request, outs)
@@ -201,9 +203,14 @@ impl Zone {
                 };
                 self.report(line, *train, said, outs)
             }
-            Msg::Time { train, .. } => self.send_again(*train, outs),
-            Msg::Answer { train, number, .. } => self.answer(*train, *number),
-            Msg::Order { order, .. } => self.order(*order, outs),
+            Msg::Time { train, .. } => self.send_again(line, *train, outs),
+            Msg::Answer {
+                train,
+                number,
+                taken,
+                ..
+            } => self.answer(line, *train, *number, *taken),
+            Msg::Order { order, .. } => self.order(line, *order, outs),
             _ => {}
         }
     }

@@ -3,7 +3,7 @@ ghost use Rattle.std.specs.Prelude.{◌≡◌, true};
 ghost use Rattle.zone_state.specs.Zone.{IsZoneOn, InRange};
 
 use arrayvec::ArrayVec;
-use definitions::outcome::{Obstacle, Refusal};
+use definitions::outcome::{Obstacle, Refusal, ShortRefusal};
 use line_map::{End, Item, Line, LineBuilder, LineFault};
 use msg_codec::{Msg, Order, Outcome, Outs};
 use std::alloc::Global;
@@ -85,6 +85,29 @@ fn answer_of(train: u16, time: u64, number: u32) -> Msg {
         number,
         taken: true,
     }
+}
+
+/// Train 7 refuses an authority.
+fn refusal_of(time: u64, number: u32) -> Msg {
+    Msg::Answer {
+        train: TrainId(7),
+        time,
+        number,
+        taken: false,
+    }
+}
+
+/// A train's way is to end at an offset of a step.
+fn short_of(train: u16, time: u64, step: DirSeg, off: u32) -> Msg {
+    Msg::Order {
+        time,
+        order: Order::Short(TrainId(train), step, off),
+    }
+}
+
+/// The same of train 7, and of a step upwards.
+fn short(time: u64, seg: u16, off: u32) -> Msg {
+    short_of(7, time, up(seg), off)
 }
 
 /// Train 7 answers authority 1.
@@ -201,6 +224,55 @@ fn opens(seg: u16) -> Case {
 fn denied(to: u32, obstacle: Obstacle) -> Case {
     let line = Outcome::Deny(ZoneId(1), TrainId(7), obstacle);
     comes_to(0, ask(0, &[up(4)], to), 0, Some(line))
+}
+
+/// The way of train 7 is to end on a segment at an offset, by an authority of a number and a mark.
+fn shortened(message: Msg, clock: u64, authority: (u32, u32), end: (u16, u32)) -> Case {
+    let (number, mark) = authority;
+    let (seg, to) = end;
+    Case {
+        from: 0,
+        message,
+        clock,
+        line: Some(Outcome::Short(ZoneId(1), TrainId(7), number, up(seg), to)),
+        sent: Some((0, number, mark, to)),
+    }
+}
+
+/// A train's way does not end earlier.
+fn not_shortened(train: u16, message: Msg, clock: u64, refusal: ShortRefusal) -> Case {
+    let line = Outcome::NoShort(ZoneId(1), TrainId(train), refusal);
+    comes_to(0, message, clock, Some(line))
+}
+
+/// Train 7 asks for 10 mm of segment 3, and is granted them.
+fn goes_on(clock: u64, number: u32) -> Case {
+    let steps = [up(2), up(3)];
+    granted(
+        7,
+        ask(clock, &steps, 10),
+        clock,
+        (number, 0),
+        (3, 10),
+        Obstacle::AskEnds,
+    )
+}
+
+/// Train 7 enters, and is granted segment 2. Its front is from 40 to 60 mm at 200 ms. Then its way is to end at 60 mm.
+fn shortens() -> [Case; 4] {
+    [
+        enters(7, entry(7, 0, 40), 0),
+        comes_to(0, answer(0), 0, None),
+        granted(
+            7,
+            ask(0, &[up(2)], 50),
+            0,
+            (2, 0),
+            (2, 50),
+            Obstacle::AskEnds,
+        ),
+        shortened(short(200, 1, 60), 200, (3, 0), (1, 60)),
+    ]
 }
 
 /// The authority of a number is sent again, by a path of a mark that ends at an offset.
@@ -582,4 +654,169 @@ fn a_segment_is_closed(rt: HostRuntime) {
         (*b"......##.", *b"......##."),
         closed,
     );
+}
+
+/// A shrink ends not before the greatest front, and before the limit, which is 150 mm. An offset may be beyond its step.
+#[test]
+fn a_short_order_names_a_place(rt: HostRuntime) {
+    let down = DirSeg {
+        seg: SegId(1),
+        dir: Dir::Down,
+    };
+    let in_place = ShortRefusal::Place;
+    let pending = Some(Outcome::Deny(ZoneId(1), TrainId(7), Obstacle::Pending));
+    let [enters, answers, grants, shortens] = shortens();
+    let cases = [
+        not_shortened(7, short(0, 1, 60), 0, ShortRefusal::Away),
+        enters,
+        answers,
+        grants,
+        not_shortened(7, short(200, 1, 59), 200, in_place),
+        not_shortened(7, short(200, 1, 150), 200, in_place),
+        not_shortened(7, short(200, 2, 50), 200, in_place),
+        not_shortened(7, short(200, 2, u32::MAX), 200, in_place),
+        not_shortened(7, short(200, 3, 0), 200, in_place),
+        not_shortened(7, short_of(7, 200, down, 60), 200, in_place),
+        not_shortened(8, short_of(8, 200, up(1), 60), 200, ShortRefusal::Away),
+        shortens,
+        not_shortened(7, short(200, 1, 80), 200, ShortRefusal::Pending),
+        comes_to(0, ask(200, &[up(2)], 50), 200, pending),
+        comes_to(0, answer_of(7, 200, 2), 200, None),
+        sent_again(time(200), 200, 3, 0, 60),
+    ];
+    check(&rt, rt.alloc(), &cases, (*b"########.", *b"###......"));
+}
+
+/// 110 mm from the start of segment 1 are 10 mm on segment 2.
+#[test]
+fn an_offset_may_be_beyond_its_step(rt: HostRuntime) {
+    let [enters, answers, grants, _] = shortens();
+    let cases = [
+        enters,
+        answers,
+        grants,
+        shortened(short(200, 1, 110), 200, (3, 0), (2, 10)),
+        comes_to(0, answer_of(7, 200, 3), 200, None),
+    ];
+    check(&rt, rt.alloc(), &cases, (*b"#######..", *b"###......"));
+}
+
+#[test]
+fn a_train_without_equipment_has_no_short_order(rt: HostRuntime) {
+    let unequipped = Msg::EntryAsk {
+        train: TrainId(7),
+        time: 0,
+        length: 40,
+        error: 5,
+        speed: 100,
+        equipped: false,
+        step: up(1),
+    };
+    let cases = [
+        enters(7, unequipped, 0),
+        comes_to(0, answer(0), 0, None),
+        not_shortened(7, short(0, 1, 60), 0, ShortRefusal::Unequipped),
+        comes_to(0, time(0), 0, None),
+    ];
+    check(&rt, rt.alloc(), &cases, (*b"######...", *b"##......."));
+}
+
+/// At once no more is held than the way that is left, and the front does not grow beyond it.
+#[test]
+fn a_taken_shrink_ends_the_way(rt: HostRuntime) {
+    let [enters, answers, grants, shortens] = shortens();
+    let cases = [
+        enters,
+        answers,
+        grants,
+        shortens,
+        comes_to(0, answer_of(7, 200, 3), 200, None),
+        comes_to(0, time(1000), 1000, None),
+    ];
+    check(&rt, rt.alloc(), &cases, (*b"###......", *b"###......"));
+}
+
+/// A taken shrink that is answered again does nothing, also once the way is longer.
+#[test]
+fn a_shrink_is_taken_once(rt: HostRuntime) {
+    let [enters, answers, grants, shortens] = shortens();
+    let cases = [
+        enters,
+        answers,
+        grants,
+        shortens,
+        comes_to(0, answer_of(7, 200, 3), 200, None),
+        comes_to(0, answer_of(7, 200, 3), 200, None),
+        goes_on(200, 4),
+        comes_to(0, answer_of(7, 200, 3), 200, None),
+        comes_to(0, refusal_of(200, 3), 200, None),
+        sent_again(time(200), 200, 4, 0, 10),
+    ];
+    check(&rt, rt.alloc(), &cases, (*b"########.", *b"###......"));
+}
+
+#[test]
+fn a_refused_shrink_leaves_the_way(rt: HostRuntime) {
+    let [enters, answers, grants, shortens] = shortens();
+    let cases = [
+        enters,
+        answers,
+        grants,
+        shortens,
+        comes_to(0, refusal_of(200, 3), 200, None),
+        comes_to(0, time(200), 200, None),
+        comes_to(0, answer_of(7, 200, 3), 200, None),
+        goes_on(200, 4),
+        sent_again(time(200), 200, 4, 0, 10),
+    ];
+    check(&rt, rt.alloc(), &cases, (*b"########.", *b"###......"));
+}
+
+/// The shrink ends at 60 mm. It waits while the least front is there, and counts as refused once that is at 61 mm.
+#[test]
+fn a_shrink_that_is_passed_is_refused(rt: HostRuntime) {
+    let [enters, answers, grants, shortens] = shortens();
+    let cases = [
+        enters,
+        answers,
+        grants,
+        shortens,
+        comes_to(0, report(400, 0, 65), 400, place(1, 20, 1, 70)),
+        sent_again(time(400), 400, 3, 0, 60),
+        comes_to(0, report(600, 0, 66), 600, place(1, 21, 1, 71)),
+        comes_to(0, time(600), 600, None),
+        comes_to(0, answer_of(7, 600, 3), 600, None),
+        goes_on(600, 4),
+    ];
+    check(&rt, rt.alloc(), &cases, (*b".#######.", *b".##......"));
+}
+
+/// A shrink to 40 mm on segment 2 waits while the rear leaves segment 1.
+#[test]
+fn a_shrink_waits_while_the_way_is_cut(rt: HostRuntime) {
+    let cases = [
+        enters(7, entry_of(7, 0, 10, 1000), 0),
+        comes_to(0, answer(0), 0, None),
+        granted(
+            7,
+            ask(0, &[up(2)], 50),
+            0,
+            (2, 0),
+            (2, 50),
+            Obstacle::AskEnds,
+        ),
+        shortened(short(105, 2, 40), 105, (3, 0), (2, 40)),
+        comes_to(0, report(115, 1, 20), 115, place(2, 5, 2, 25)),
+        sent_again(time(115), 115, 3, 1, 40),
+        comes_to(0, answer_of(7, 115, 3), 115, None),
+        granted(
+            7,
+            ask(115, &[up(2)], 45),
+            115,
+            (4, 1),
+            (2, 45),
+            Obstacle::AskEnds,
+        ),
+    ];
+    check(&rt, rt.alloc(), &cases, (*b".........", *b"........."));
 }

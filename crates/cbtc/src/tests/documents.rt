@@ -2618,11 +2618,268 @@ answer 7 3 taken
 answer 7 3 taken
 done 15";
 
+/// Ways that orders shorten.
+const SHRINKS: &str = "
+= a short order at the greatest front
++ four segments
++ asks for entry
++ comes on
++ goes on
+order short 1 7 1+ 60000
+take 1 0 4
+take 0 1 2
+take 0 1 3
+take 1 0 5
+take 1 0 6
+ask 7 1 2+ 100000
+take 1 0 7
+- 0
+entry 1 7 1
+answer 7 1 taken
+grant 1 7 2 3+ 300000 1
+short 1 7 3 1+ 60000
+answer 7 2 taken
+answer 7 3 taken
+grant 1 7 4 2+ 100000 1
+done 16
+= a short order before the greatest front
++ four segments
++ asks for entry
++ comes on
++ goes on
+order short 1 7 1+ 59999
+take 1 0 4
+- 0
+entry 1 7 1
+answer 7 1 taken
+grant 1 7 2 3+ 300000 1
+noshort 1 7 place
+done 10
+= short orders at the limit, before it, and again
++ four segments
++ asks for entry
++ comes on
++ goes on
+order short 1 7 3+ 300000
+take 1 0 4
+order short 1 7 3+ 299999
+take 1 0 5
+order short 1 7 3+ 299999
+take 1 0 6
+- 0
+entry 1 7 1
+answer 7 1 taken
+grant 1 7 2 3+ 300000 1
+noshort 1 7 place
+short 1 7 3 3+ 299999
+noshort 1 7 pending
+done 14
+= steps that are not on the way
++ four segments
++ asks for entry
++ comes on
++ goes on
+order short 1 7 4+ 50
+take 1 0 4
+order short 1 7 2- 50
+take 1 0 5
+- 0
+entry 1 7 1
+answer 7 1 taken
+grant 1 7 2 3+ 300000 1
+noshort 1 7 place
+noshort 1 7 place
+done 12
+= past the length of its step
++ four segments
++ asks for entry
++ comes on
++ goes on
+order short 1 7 1+ 150000
+take 1 0 4
+- 0
+entry 1 7 1
+answer 7 1 taken
+grant 1 7 2 3+ 300000 1
+short 1 7 3 2+ 50000
+done 10
+= a train that the zone does not control
++ four segments
++ asks for entry
+order short 1 7 1+ 70000
+take 1 0 2
+- 0
+noshort 1 7 away
+done 4
+= a shrink before its train comes on
++ four segments
++ asks for entry
+take 1 0 1
+order short 1 7 1+ 70000
+take 1 0 2
+take 0 1 2
+take 0 1 1
+enter 7
+take 0 1 2
+- 0
+entry 1 7 1
+short 1 7 2 1+ 70000
+answer 7 1 taken
+answer 7 2 taken
+done 9
+= a shrink answered taken, twice
++ four segments
++ asks for entry
++ comes on
++ goes on
+order short 1 7 2+ 100000
+take 1 0 4
+take 0 1 2
+take 0 1 3
+take 1 0 6
+take 1 0 6
+take 1 0 5
+ask 7 1 2+ 3+ 300000
+take 1 0 7
+- 0
+entry 1 7 1
+answer 7 1 taken
+grant 1 7 2 3+ 300000 1
+short 1 7 3 2+ 100000
+answer 7 2 taken
+answer 7 3 taken
+grant 1 7 4 3+ 300000 1
+done 17
+= a shrink that a train refuses, and one that it takes
++ four segments
++ asks for entry
++ comes on
++ goes on
+deliver 0
+step 1000 7 20000
+order short 1 7 2+ 190099
+deliver 1
+deliver 0
+take 1 0 6
+take 1 0 6
+order short 1 7 2+ 190100
+deliver 1
+deliver 0
+deliver 1
+ask 7 1 2+ 3+ 300000
+deliver 1
+- 0
+entry 1 7 1
+answer 7 1 taken
+grant 1 7 2 3+ 300000 1
+answer 7 2 taken
+short 1 7 3 2+ 190099
+answer 7 3 refused
+short 1 7 4 2+ 190100
+answer 7 4 taken
+grant 1 7 5 3+ 300000 1
+done 21
+= a shrink that the fronts have passed
++ four segments
++ asks for entry
++ comes on
++ goes on
+take 0 1 2
+order short 1 7 2+ 50000
+take 1 0 5
+step 7000 7 140000
+report 7 1 2+ 100000 1
+take 1 0 6
+ask 7 1 2+ 3+ 4+ 100000
+take 1 0 7
+take 0 1 3
+take 1 0 8
+take 0 1 4
+- 0
+entry 1 7 1
+answer 7 1 taken
+grant 1 7 2 3+ 300000 1
+answer 7 2 taken
+short 1 7 3 2+ 50000
+place 1 7 2+ 38000 2+ 100000
+grant 1 7 4 4+ 100000 1
+answer 7 3 refused
+answer 7 4 taken
+done 19
+= a time repeats the shorter path
++ four segments
++ asks for entry
++ comes on
++ goes on
+order short 1 7 2+ 100000
+take 1 0 4
+time 1 7
+take 1 0 5
+take 0 1 4
+step 7000 7 140000
+take 0 1 3
+take 0 1 2
+step 1000 7 1
+- 5
+entry 1 7 1
+answer 7 1 taken
+grant 1 7 2 3+ 300000 1
+short 1 7 3 2+ 100000
+answer 7 3 taken
+answer 7 3 taken
+answer 7 3 taken
+premise 28 P4
+= asks while a shrink is unanswered
++ four segments
++ asks for entry
++ comes on
++ goes on
+order short 1 7 2+ 100000
+take 1 0 4
+ask 7 1 2+ 3+ 4+ 100
+take 1 0 5
+ask 7 1 1+ 50000
+take 1 0 6
+- 0
+entry 1 7 1
+answer 7 1 taken
+grant 1 7 2 3+ 300000 1
+short 1 7 3 2+ 100000
+deny 1 7 9
+deny 1 7 10
+done 14
+= another train is granted what a shrink frees
++ four segments
++ trains
++ both on
+ask 7 1 2+ 3+ 300000
+take 1 0 5
+order short 1 7 3+ 100000
+take 1 0 6
+ask 8 1 3- 300000
+take 1 0 7
+take 0 1 3
+take 0 1 4
+take 1 0 9
+take 1 0 7
+- 0
+entry 1 7 1
+entry 1 8 1
+answer 7 1 taken
+answer 8 1 taken
+grant 1 7 2 3+ 300000 1
+short 1 7 3 3+ 100000
+deny 1 8 3
+answer 7 2 taken
+answer 7 3 taken
+grant 1 8 2 3- 200000 3
+done 24";
+
 /// All tables.
 pub const TABLES: &[&str] = &[
     WORKED, RULES, TEXTS, MESSAGES, SEVERAL, MOTION, PREMISES, REPORTS, SILENCE, DELIVERIES, FORMS,
-    NOISE, CHECKS, CLOSURES,
+    NOISE, CHECKS, CLOSURES, SHRINKS,
 ];
 
 /// How many rows stand in them.
-pub const ROWS: u32 = 212;
+pub const ROWS: u32 = 225;

@@ -19,13 +19,18 @@ returns-clause-reach c =
     let f = rw (w, l) at c.first_closed.ensures.closed in
     let r = rw (w, l, h, f) at c.reach_on.ensures.reach in
     let t : (c.args.ready && continues c.args.line.now c.args.path.now.steps.items c.args.asked.now) ≡ true = search rules in
+    let p = c.if-pending.false in
     let n = c.if-silent.false in
-    rw (t, n) (r ∙ reach_is c.args.line.now c.args.zone c.args.bars.trains.now c.args.bars.closed.now c.args.train.0 (asked_way c.args.path.now.steps.items c.args.asked.now)
+    rw (t, p, n) (r ∙ reach_is c.args.line.now c.args.zone c.args.bars.trains.now c.args.bars.closed.now c.args.train.0 (asked_way c.args.path.now.steps.items c.args.asked.now)
     (end_place (seg_len c.args.line.now) c.args.path.now) c.args.to)
 
 pub returns-then-not-continues-clause-fits : goal.returns-then-not-continues-clause-fits
 returns-then-not-continues-clause-fits c =
     bars_all c.args.line.now c.args.path.now c.args.asked.now _ (rw c.as_slice-steps.ensures.value at c.as_slice-steps.ensures.fits) c.requires.fits c.barred.ensures.none
+
+pub returns-then-pending-clause-fits : goal.returns-then-pending-clause-fits
+returns-then-pending-clause-fits c =
+    bars_all c.args.line.now c.args.path.now c.args.asked.now _ (rw c.as_slice-steps.ensures.value at c.as_slice-steps.ensures.fits) c.requires.fits c.barred-then-pending.ensures.none
 
 pub returns-then-silent-clause-fits : goal.returns-then-silent-clause-fits
 returns-then-silent-clause-fits c =

@@ -1,4 +1,7 @@
 use Rattle.std.proofs.Common.{arith, rules}
+use Rattle.authority_ledger.specs.Ledger.{longer}
+use Rattle.zone_state.proofs.Checked_fits.{longer_fits}
+use Rattle.zone_state.proofs.Granted_is.{none_longer}
 use Rattle.zone_state.proofs.trains.lengthen.Goals as goal
 
 pub returns-clause-fits : goal.returns-clause-fits
@@ -15,5 +18,6 @@ returns-clause-fits c =
       ordered = f.ordered;
       ahead = let a = f.ahead in let b = c.lengthen_way.ensures.end in omega (arith, a, b);
       at = search rules;
-      unshrunk = f.unshrunk;
+      ledger = c.issue_longer.ensures.fits;
+      shrink = rw c.issue_longer.ensures.after (longer_fits _ _ (longer c.args.x.now.ledger).pending (none_longer c.args.x.now.ledger c.requires.none));
     }

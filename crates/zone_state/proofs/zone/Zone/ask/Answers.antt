@@ -7,6 +7,9 @@ use Rattle.plain_state.specs.declared.Controlled.{Controlled}
 use Rattle.plain_state.specs.Zone.{find_controlled, fresh_train, lengthened, path_found}
 use Rattle.zone_state.specs.Zone.{AllFit, ReachFitsFound, path_granted}
 use Rattle.zone_state.proofs.Found_is.{found_is, absent, changed_is, passes_is, fit_found, fit_here, fit_set, fit_again}
+use Rattle.zone_reach.specs.Reach.{reach_value}
+use Rattle.list_laws.proofs.By_test.{none_of}
+use Rattle.zone_state.proofs.Granted_is.{granted_is, reach_free}
 use Rattle.zone_state.proofs.Holds_set.{holds_set}
 use Rattle.zone_state.proofs.Kept_put.{kept_train, kept_hold}
 use Rattle.zone_state.proofs.zone.Zone.ask.Goals as goal
@@ -29,6 +32,14 @@ lengthen-hold-requires-clause-reaches c =
     let a : ReachFitsFound c.args.line.now (path_found (find_controlled c.args.train.0 c.self.inside.trains.items)) c.args.asked.now c.reach_of-reach.result.distance = rw (sym c.self.view_is) at c.reach_of-reach.ensures.fits in
     rw f at a
 
+pub lengthen-hold-requires-clause-none : goal.lengthen-hold-requires-clause-none
+lengthen-hold-requires-clause-none c =
+    let h = rw (sym c.self.view_is) at (sym c.in-Some.ensures.first) in
+    let f = found_is c.args.train.0 c.self.inside.trains.items c.in-Some.i c.index_mut.result.now h c.index_mut.ensures.value in
+    let r = rw (sym c.self.view_is) at c.reach_of-reach.ensures.reach in
+    let u = reach_free c.args.line.now c.self.inside.id c.self.inside.clock c.self.inside.trains.items c.self.inside.closed c.args.train.0 c.args.asked.now c.args.to (reach_value c.reach_of-reach.result) r (let d = c.if-reach-eq0.false in omega arith) in
+    none_of c.index_mut.result.now.ledger.pending (rw f at u)
+
 pub invariant_of-self : goal.invariant_of-self
 invariant_of-self c =
     let l = rw (sym c.self.view_is) at c.in-Some.ensures.within in
@@ -49,9 +60,13 @@ returns-clause-gives c =
     let l = rw (sym c.self.view_is) at c.in-Some.ensures.within in
     let f = found_is c.args.train.0 c.self.inside.trains.items c.in-Some.i c.index_mut.result.now h c.index_mut.ensures.value in
     let n : nat_eq c.reach_of-reach.result.distance 0 ≡ false = let d = c.if-reach-eq0.false in grind (arith, nat_tests) in
+    let r = rw (sym c.self.view_is) at c.reach_of-reach.ensures.reach in
+    let u = reach_free c.args.line.now c.self.inside.id c.self.inside.clock c.self.inside.trains.items c.self.inside.closed c.args.train.0 c.args.asked.now c.args.to (reach_value c.reach_of-reach.result) r (let d = c.if-reach-eq0.false in omega arith) in
     let x = c.index.ensures ∙ (get_or-set_same c.self.inside.trains.items c.in-Some.i c.lengthen-hold.new.x c.index.result.now l ∙ c.lengthen-hold.ensures.next) in
     rw (← c.reach_of-reach.ensures.reach, ← c.self.view_is, f, n)
-    (c.granted.ensures ∙ ap (λ (y : Controlled). path_granted c.self.inside.id c.args.train y c.reach_of-reach.result.obstacle) x)
+    (c.granted.ensures ∙ (ap (λ (y : Controlled). path_granted c.self.inside.id c.args.train y c.reach_of-reach.result.obstacle) x
+    ∙ granted_is (seg_len c.args.line.now) c.self.inside.id c.args.train c.args.asked.now (reach_value c.reach_of-reach.result) c.index_mut.result.now
+    (none_of c.index_mut.result.now.ledger.pending (rw f at u))))
 
 pub returns-clause-next : goal.returns-clause-next
 returns-clause-next c =

@@ -1,6 +1,7 @@
 use Rattle.std.proofs.Common.{sym}
 use Rattle.zone_state.specs.Zone.{AllFit}
 use Rattle.zone_state.proofs.Found_is.{found_is, fit_found, fit_path}
+use Rattle.zone_state.proofs.Checked_fits.{pair_some}
 use Rattle.zone_state.proofs.zone.Zone.reach_of.Goals as goal
 
 pub reach_from-requires-clause-fits : goal.reach_from-requires-clause-fits
@@ -16,7 +17,7 @@ returns-clause-reach c =
     let h = rw (sym c.self.view_is) at c.requires.at in
     let e = rw c.as_slice-trains.ensures.value at c.index-trains-i.is in
     let f = found_is c.args.train.0 c.self.inside.trains.items c.args.i c.index-trains-i.result h e in
-    rw (← c.self.view_is, f) (rw (c.as_slice-trains.ensures.value, c.path-path.ensures.path, c.is_silent-silent.ensures, c.silent.ensures) at c.reach_from.ensures.reach)
+    rw (← c.self.view_is, f) (rw (c.as_slice-trains.ensures.value, c.path-path.ensures.path, c.is_silent-silent.ensures, c.silent.ensures, c.answered-ready.ensures, c.is_some-pending.ensures, c.pending.ensures, pair_some c.index-trains-i.result.ledger.pending) at c.reach_from.ensures.reach)
 
 pub returns-clause-fits : goal.returns-clause-fits
 returns-clause-fits c =
