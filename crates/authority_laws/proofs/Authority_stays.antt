@@ -8,7 +8,7 @@ use Rattle.definitions.specs.World.{is_declared, entered, head, journey, Authori
 use Rattle.definitions.specs.Control.{controls}
 use Rattle.definitions.specs.Zones.{zone_id}
 use Rattle.definitions.specs.Longest.{longest_end, longest_route}
-use Rattle.motion_laws.proofs.Motion.{place, Motion}
+use Rattle.journey_laws.proofs.Motion.{place, Motion}
 use Rattle.event_laws.proofs.Facts_stay.{declared_stays, long_stays, first_stays, entered_stays}
 use Rattle.way_laws.proofs.Cut_cut.{cut_cut}
 use Rattle.invariant_laws.proofs.Invariant.{IsPath, is_path, AuthorityIs, FirstIs}

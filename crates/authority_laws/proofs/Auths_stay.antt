@@ -7,7 +7,7 @@ use Rattle.definitions.specs.Track.{Line, seg_len}
 use Rattle.definitions.specs.Story.{Transition, Story}
 use Rattle.definitions.specs.World.{is_declared, last_number, Authority, is_auth}
 use Rattle.definitions.specs.Longest.{longest_end, longest_route}
-use Rattle.motion_laws.proofs.Motion.{place}
+use Rattle.journey_laws.proofs.Motion.{place}
 use Rattle.event_laws.proofs.Issued_all.{AllIssued, all_weaker}
 use Rattle.event_laws.proofs.Last_quiet.{last_grows}
 use Rattle.invariant_laws.proofs.Invariant.{AuthorityIs, AuthIs, AuthTrue, Authorized}

@@ -18,7 +18,7 @@ use Rattle.definitions.specs.Farther.{end_or_0}
 use Rattle.definitions.specs.Fold.{account}
 use Rattle.definitions.specs.Longest.{longest_end}
 use Rattle.definitions.specs.Zones.{zone_id}
-use Rattle.motion_laws.proofs.Motion.{Motion}
+use Rattle.journey_laws.proofs.Motion.{Motion}
 use Rattle.event_laws.proofs.Controls_same.{controls_now}
 use Rattle.way_laws.proofs.Line_builds.{portal_on_line, long_on_line}
 use Rattle.invariant_laws.proofs.Invariant.{path_fits, IsPath, FirstIs, EntryIs, Authorized}

@@ -27,7 +27,7 @@ use Rattle.definitions.specs.Zones.{zone_id}
 use Rattle.definitions.specs.Fold.{account}
 use Rattle.event_laws.proofs.Controls_same.{controls_stays, known_same}
 use Rattle.front_laws.proofs.Taken_counts.{answers}
-use Rattle.motion_laws.proofs.Motion.{Motion}
+use Rattle.journey_laws.proofs.Motion.{Motion}
 use Rattle.way_laws.proofs.Cut_front.{cut_all, cut_front, cut_length, cut_some, cut_end, total_append, total_front, offset_within}
 use Rattle.way_laws.proofs.Cut_cut.{cut_more, cut_cut}
 use Rattle.way_laws.proofs.Chained_front.{once_front, chained_front, chained_more, first_stays}

@@ -21,7 +21,7 @@ use Rattle.definitions.specs.Fronts.{least_rear}
 use Rattle.definitions.specs.Ways.{PlainWay, steps_behind, way_between, chained}
 use Rattle.definitions.specs.Safe.{IsLineOfOneZone}
 use Rattle.definitions.specs.Zones.{zone_id}
-use Rattle.motion_laws.proofs.Motion.{Motion}
+use Rattle.journey_laws.proofs.Motion.{Motion}
 use Rattle.way_laws.proofs.Between_points.{begin_of, behind_from}
 use Rattle.way_laws.proofs.Between_longer.{between_nearer}
 use Rattle.invariant_laws.proofs.Invariant.{step_begin, end_read, path_fits, IsPath, FirstIs, FrontsAre, Authorized}

@@ -19,7 +19,7 @@ use Rattle.definitions.specs.Safe.{IsLineOfOneZone}
 use Rattle.definitions.specs.Zones.{zone_id}
 use Rattle.way_laws.proofs.Between_points.{begin_of, between_end}
 use Rattle.way_laws.proofs.Between_longer.{between_nearer}
-use Rattle.motion_laws.proofs.Motion.{Motion}
+use Rattle.journey_laws.proofs.Motion.{Motion}
 use Rattle.invariant_laws.proofs.Invariant.{FrontsAre, Authorized}
 use Rattle.front_laws.proofs.Fronts_numbers.{Numbered}
 use Rattle.front_laws.proofs.Taken_counts.{answers}

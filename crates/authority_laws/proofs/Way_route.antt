@@ -14,7 +14,7 @@ use Rattle.definitions.specs.Premises.{on_line}
 use Rattle.definitions.specs.Story.{Story}
 use Rattle.definitions.specs.World.{is_declared, long_of, Authority, route, authority_end, journey}
 use Rattle.definitions.specs.Ways.{PlainWay, steps_behind, way_between, chained, first_len}
-use Rattle.motion_laws.proofs.Motion.{place}
+use Rattle.journey_laws.proofs.Motion.{place}
 use Rattle.way_laws.proofs.Cut_front.{cut_all, offset_above, cut_front, total_append, offset_within}
 use Rattle.way_laws.proofs.Chained_front.{once_front, once_rest, chained_front, chained_rest}
 use Rattle.way_laws.proofs.Between_points.{begin_of, behind_rear, between_is, between_some, between_mark, between_from, between_first, between_end, between_steps}

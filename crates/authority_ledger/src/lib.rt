@@ -4,6 +4,3 @@
 pub mod ledger;
 
 pub use ledger::{Answered, Ledger, Pending, Shrink};
-
-#[cfg(test)]
-mod tests;

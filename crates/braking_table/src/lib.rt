@@ -4,6 +4,3 @@
 pub mod table;
 
 pub use table::{Brake, Table, TableFault};
-
-#[cfg(test)]
-mod tests;

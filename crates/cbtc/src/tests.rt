@@ -3,7 +3,7 @@
 mod documents;
 
 use crate::top::cbtc_top;
-use documents::{COLUMNS, PARTS, ROWS, TABLES};
+use documents::{PARTS, ROWS, TABLES};
 use edge_io::memory::{SliceSource, VecSink};
 use edge_io::status::Status;
 use edge_io::stream::NoGate;
@@ -394,27 +394,6 @@ fn comment_gives(
 ) -> Result<bool, AllocError> {
     let input = vec![in alloc; b'#'; size]?;
     run_gives(alloc, input.as_slice(), status, text)
-}
-
-/// Tries a row of a column and a text line that is no item.
-fn try_column(rt: &(impl Abort + Alloc<A = Global>), row: &str) -> Result<(), AllocError> {
-    let holds = match row.split_once(' ') {
-        Some((column, text)) => {
-            let told = format!(in rt.alloc(); "line 1 column {column}\n")?;
-            run_gives(rt.alloc(), text.as_bytes(), Status::Line, &told)?
-        }
-        None => false,
-    };
-    assert!(rt; holds, "{row}");
-    Ok(())
-}
-
-#[test]
-fn columns_of_items(rt: HostRuntime) -> Result<(), AllocError> {
-    for row in COLUMNS.split('\n') {
-        try_column(&rt, row)?;
-    }
-    Ok(())
 }
 
 /// An item of 4,097 bytes is refused before its end.

@@ -26,14 +26,14 @@ use Rattle.definitions.specs.Zones.{zone_id}
 use Rattle.event_laws.proofs.Admitted.{Admitted}
 use Rattle.event_laws.proofs.Moment_most.{moment_most, moment_zero}
 use Rattle.event_laws.proofs.Facts_stay.{long_stays, entered_stays}
-use Rattle.motion_laws.proofs.Motion.{place_at, Motion, Timed, place_stays}
+use Rattle.journey_laws.proofs.Motion.{place_at, Motion, Timed, place_stays}
 use Rattle.invariant_laws.proofs.Invariant.{step_begin, ReportIs, ReportTrue, FrontsAre, ControlIs, Authorized, Invariant}
 use Rattle.event_laws.proofs.By_does.{took_issued, effect_took}
 use Rattle.front_laws.proofs.Head_place.{place_within, longest_mark}
 use Rattle.definitions.specs.World.{journey}
 use Rattle.definitions.specs.Account.{ruled, shrink_end}
 use Rattle.definitions.specs.Fold.{account, by_answer}
-use Rattle.motion_laws.proofs.Motion.{place}
+use Rattle.journey_laws.proofs.Motion.{place}
 use Rattle.front_laws.proofs.Ruled_is.{ruled_is}
 use Rattle.front_laws.proofs.Report_ruled.{cut_ruled, true_kept}
 use Rattle.front_laws.proofs.Taken_counts.{takes_some, cuts}

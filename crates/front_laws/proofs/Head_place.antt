@@ -10,7 +10,7 @@ use Rattle.definitions.specs.World.{entered, head, long_of, journey}
 use Rattle.definitions.specs.Control.{controls}
 use Rattle.definitions.specs.Longest.{longest_end, longest_route}
 use Rattle.definitions.specs.Zones.{zone_id}
-use Rattle.motion_laws.proofs.Motion.{place}
+use Rattle.journey_laws.proofs.Motion.{place}
 use Rattle.way_laws.proofs.Cut_front.{cut_front}
 use Rattle.invariant_laws.proofs.Invariant.{step_begin, ControlIs, Invariant}
 use Rattle.invariant_laws.proofs.One_route.{OneRoute, portal_end, one_route}

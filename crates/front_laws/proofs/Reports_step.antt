@@ -2,7 +2,7 @@
 use Rattle.journey_laws.proofs.Journey_track.{first_steps, journey_goes_on}
 use Rattle.way_laws.proofs.Cut_front.{cut_few}
 use Rattle.event_laws.proofs.By_does.{effect_event, is_report, reports, effect_unreported}
-use Rattle.motion_laws.proofs.Head_step.{enter_once}
+use Rattle.journey_laws.proofs.Head_step.{enter_once}
 use Rattle.std.proofs.Common.{◌≡◌, ℕ, ◌+◌, ◌-◌, [], ◌∷◌, length, Bool, true, false, ◌&&◌, refl, sym, ◌∙◌, ap, subst, arith, List, ◌<◌, ◌≤◌}
 use Rattle.std.proofs.lemmas.Bool.{eqb-true, and_parts}
 use Rattle.std.proofs.lemmas.Bool.Decides.{nat_tests}
@@ -29,7 +29,7 @@ use Rattle.event_laws.proofs.Issued_all.{AllIn, AllIssued, all_weaker, in_all_we
 use Rattle.event_laws.proofs.Admitted.{Admitted}
 use Rattle.event_laws.proofs.Moment_most.{moment_most}
 use Rattle.event_laws.proofs.Facts_stay.{error_stays, entered_stays}
-use Rattle.motion_laws.proofs.Motion.{place_at, Timed, place_stays, head_next}
+use Rattle.journey_laws.proofs.Motion.{place_at, Timed, place_stays, head_next}
 use Rattle.invariant_laws.proofs.Invariant.{step_begin, ReportIs, ReportTrue, Invariant}
 use Rattle.invariant_laws.proofs.One_route.{on_controls}
 use Rattle.invariant_laws.proofs.First_steps.{controlled_some, controlled_reaches}

@@ -15,7 +15,7 @@ use Rattle.definitions.specs.Account.{Account}
 use Rattle.definitions.specs.Fold.{account}
 use Rattle.definitions.specs.Longest.{counted, longest_end, is_pending, shrink_place, longest_route}
 use Rattle.definitions.specs.Zones.{zone_id}
-use Rattle.motion_laws.proofs.Motion.{Motion}
+use Rattle.journey_laws.proofs.Motion.{Motion}
 use Rattle.event_laws.proofs.Issued_all.{AllIn, in_all_weaker, AuthHas, auth_without, NoAuth}
 use Rattle.event_laws.proofs.Account_next.{issued_is}
 use Rattle.event_laws.proofs.Last_quiet.{last_quiet, last_grows}

@@ -15,7 +15,7 @@ use Rattle.definitions.specs.Ways.{steps_behind}
 use Rattle.definitions.specs.Zones.{zone_id}
 use Rattle.way_laws.proofs.Track_front.{is_long, all_long, long_steps}
 use Rattle.way_laws.proofs.Between_points.{behind_take}
-use Rattle.motion_laws.proofs.Motion.{place, Motion}
+use Rattle.journey_laws.proofs.Motion.{place, Motion}
 use Rattle.invariant_laws.proofs.Invariant.{ControlIs, FrontsAre, Authorized}
 use Rattle.front_laws.proofs.Fronts_numbers.{least_rear_is}
 

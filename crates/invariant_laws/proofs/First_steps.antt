@@ -11,7 +11,7 @@ use Rattle.definitions.specs.Control.{controls}
 use Rattle.definitions.specs.Farther.{end_or_0}
 use Rattle.definitions.specs.Longest.{longest_route}
 use Rattle.definitions.specs.Zones.{zone_id}
-use Rattle.motion_laws.proofs.Motion.{Motion}
+use Rattle.journey_laws.proofs.Motion.{Motion}
 use Rattle.way_laws.proofs.Cut_front.{cut_some, cut_total}
 use Rattle.journey_laws.proofs.Journey_track.{journey_begins, journey_ends, first_steps}
 use Rattle.invariant_laws.proofs.Invariant.{step_begin, SomeIs, Authorized}

@@ -15,7 +15,7 @@ use Rattle.definitions.specs.World.{Authority, route, authority_end, entered, he
 use Rattle.definitions.specs.Control.{controls}
 use Rattle.definitions.specs.Longest.{longest_end, longest_route}
 use Rattle.definitions.specs.Zones.{zone_id}
-use Rattle.motion_laws.proofs.Motion.{place, Motion}
+use Rattle.journey_laws.proofs.Motion.{place, Motion}
 use Rattle.way_laws.proofs.Cut_front.{cut_front, cut_end, total_append}
 use Rattle.way_laws.proofs.Cut_cut.{before_last, cut_cut, cut_longer}
 use Rattle.journey_laws.proofs.Journey_track.{journey_ends}

@@ -21,7 +21,7 @@ use Rattle.definitions.specs.Fronts.{possible_front, least_rear}
 use Rattle.definitions.specs.Steps.{entry_path}
 use Rattle.definitions.specs.Zones.{zone_id}
 use Rattle.event_laws.proofs.Issued_all.{AllIssued}
-use Rattle.motion_laws.proofs.Motion.{place, place_at, Motion}
+use Rattle.journey_laws.proofs.Motion.{place, place_at, Motion}
 
 -- where the step of a mark begins on the journey
 abbrev pub step_begin : Line → ℕ → Story → ℕ → ℕ

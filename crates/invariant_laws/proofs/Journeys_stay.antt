@@ -7,7 +7,7 @@ use Rattle.definitions.specs.Track.{Line, seg_len}
 use Rattle.definitions.specs.Story.{Transition, Story}
 use Rattle.definitions.specs.World.{clock, at_moment, entered, head, journey}
 use Rattle.way_laws.proofs.Cut_cut.{cut_cut}
-use Rattle.motion_laws.proofs.Motion.{place, place_at, Motion, place_at_most}
+use Rattle.journey_laws.proofs.Motion.{place, place_at, Motion, place_at_most}
 use Rattle.journey_laws.proofs.Journey_track.{journey_ends, journey_goes_on}
 use Rattle.invariant_laws.proofs.Invariant.{JourneysAre, Authorized}
 use Rattle.invariant_laws.proofs.One_route.{on_controls}

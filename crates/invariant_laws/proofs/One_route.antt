@@ -21,7 +21,7 @@ use Rattle.definitions.specs.Farther.{end_or_0, route_or_none}
 use Rattle.definitions.specs.Longest.{longest_end, is_pending, shrink_place, longest_route}
 use Rattle.definitions.specs.Zones.{zone_id}
 use Rattle.way_laws.proofs.Cut_front.{last_place, place_after, last_after, cut_few, cut_whole, total_append}
-use Rattle.motion_laws.proofs.Motion.{Motion}
+use Rattle.journey_laws.proofs.Motion.{Motion}
 use Rattle.invariant_laws.proofs.Invariant.{path_fits, end_read, AuthorityIs, FirstIs, ControlIs, Authorized}
 
 -- what a path that fits is

@@ -1,2 +1,3 @@
-//! Laws of journeys: a journey is the track from its first step up to the head, and no step comes twice after a portal.
+//! Laws of the clock, of where trains were when, and of journeys: a journey is the track from its first step up to the head, and
+//! no step comes twice after a portal.
 #![tactic(auto)]

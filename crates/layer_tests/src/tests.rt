@@ -1,10 +1,17 @@
 //! One file for each layer, and the line on which ways and the world are tried.
 
-mod brakes;
+mod decisions;
+mod events;
+mod frames;
 mod fronts;
+mod items;
+mod ledger;
 mod line;
+mod outcomes;
 mod room;
+mod rows;
 mod sets;
+mod stops;
 mod streams;
 mod ways;
 mod world;

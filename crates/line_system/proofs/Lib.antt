@@ -13,3 +13,4 @@ pub mod Go_kept
 pub mod Zone_next
 pub mod Shows_zone
 pub mod Next_waits
+pub mod Parts_moved

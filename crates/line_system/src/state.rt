@@ -134,14 +134,14 @@ impl State {
         ensures on_line { IfOk result (λ s. IsZoneOn line.now s.zone) }
     {
         Ok(State {
+            lost_to_zone: Losses::new(alloc)?,
+            lost_to_world: Losses::new(alloc)?,
             world: World::start(alloc, line)?,
             zone: Zone::start(alloc, line, zone)?,
             to_zone: Link::new(alloc),
             to_world: Link::new(alloc),
             taken_by_zone: 0,
             taken_by_world: 0,
-            lost_to_zone: Losses::new(alloc)?,
-            lost_to_world: Losses::new(alloc)?,
             messages: 0,
         })
     }

@@ -31,7 +31,6 @@ use world_sim::{Premise, World};
 use zone_state::Zone;
 
 /// The zone of a line of one zone.
-#[tactic(auto, using(crate::proofs::Starts::zone_at, crate::proofs::Starts::no_zone_at))]
 fn zone_of_line(line: &Line) -> ZoneId
     requires valid { is_line line.now ≡ true }
     requires one { count_by is_any_zone line.now ≤ 1 }

@@ -6,8 +6,6 @@
 pub mod item;
 pub mod line;
 mod table;
-#[cfg(test)]
-mod tests;
 mod values;
 
 pub use form_codec::fault::TextFault;

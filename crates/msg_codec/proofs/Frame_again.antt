@@ -11,8 +11,8 @@ use Rattle.definitions.specs.declared.frame.Unread.TheVariants.{Short, Out}
 use Rattle.definitions.specs.FrameFields.{Form, as_read}
 use Rattle.definitions.specs.FrameLayouts.{report, reading, time_told, entry_ask, ask, answer, gone, echo, order_told, auth, switch_cmd, lend_ask, lend, returned, hand, seen_told}
 use Rattle.definitions.specs.Frames.{frame_of, Fits, body_at, whole, IsPlaced, frame_at, has_version, has_kind, report_of, reading_of, time_told_of, entry_ask_of, ask_of, answer_of, gone_of, echo_of, order_told_of, auth_of, switch_cmd_of, lend_ask_of, lend_of, returned_of, handed_of, seen_told_of}
-use Rattle.msg_codec.proofs.Then_lawful.{IsBytes, Near, Lawful, bind_ok, bind_err, ok_is, ok_no_err, chosen}
-use Rattle.msg_codec.proofs.Hand_lawful.{report_lawful, reading_lawful, time_told_lawful, entry_ask_lawful, ask_lawful, answer_lawful, gone_lawful, echo_lawful, order_told_lawful, auth_lawful, switch_cmd_lawful, lend_ask_lawful, lend_lawful, returned_lawful, hand_lawful, seen_told_lawful}
+use Rattle.frame_fields.proofs.Then_lawful.{IsBytes, Near, Lawful, bind_ok, bind_err, ok_is, ok_no_err, chosen}
+use Rattle.frame_fields.proofs.Hand_lawful.{report_lawful, reading_lawful, time_told_lawful, entry_ask_lawful, ask_lawful, answer_lawful, gone_lawful, echo_lawful, order_told_lawful, auth_lawful, switch_cmd_lawful, lend_ask_lawful, lend_lawful, returned_lawful, hand_lawful, seen_told_lawful}
 
 -- What holds of a kind: what is read of it is spelled so, and no field lies far.
 pub record Told (version kind : ℕ) : Type 0 where

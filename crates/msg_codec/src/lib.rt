@@ -4,12 +4,8 @@
 //! greatest byte first. The definitions have the fields with their widths and ranges, and what reading bytes from the left gives.
 #![tactic(auto)]
 
-pub mod fields;
-pub mod flags;
 pub mod outs;
 pub mod reading;
-#[cfg(test)]
-mod tests;
 pub mod writing;
 
 pub use definitions::event::Event;

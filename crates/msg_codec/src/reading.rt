@@ -4,37 +4,29 @@ ghost use Rattle.definitions.specs.FrameFields.{Gives, as_read};
 ghost use Rattle.definitions.specs.FrameLayouts as spec;
 ghost use Rattle.definitions.specs.Frames.{Fits, IsPlaced, placed, whole, frame_of, frame_at, body_at, handed_of, report_of, has_version, has_kind, reading_of, time_told_of, entry_ask_of, ask_of, answer_of, gone_of, echo_of, order_told_of, auth_of, switch_cmd_of, lend_ask_of, lend_of, returned_of, seen_told_of};
 
-use crate::fields::{
-    read_any, read_any_train, read_counts, read_end, read_facts, read_fronts, read_integrity,
-    read_kept, read_numbers, read_offset, read_order, read_ordinal, read_path, read_position,
-    read_section, read_seen, read_step, read_steps, read_switch, read_time, read_train, read_yes,
-};
 use definitions::frame::Unread;
-use definitions::message::{Hand, Msg};
+use definitions::message::{Hand, Msg, SeenWhat};
 use definitions::outcome::FrameFault;
-use track_points::TrainId;
-
-/// Reads the fields of a report.
-#[tactic(auto, unfolding(definitions::specs::FrameLayouts::report))]
-fn report_fields(bytes: &[u8]) -> Result<((TrainId, u64, u32, i32, bool), &[u8]), Unread>
-    ensures { Gives (λ x. ((x.0.0, (x.0.1, (x.0.2, (x.0.3, x.0.4)))), x.1.now)) result (spec.report.read bytes.now) }
-{
-    let (train, rest) = read_train(bytes)?;
-    let (time, rest) = read_time(rest)?;
-    let (mark, rest) = read_any(rest)?;
-    let (offset, rest) = read_offset(rest)?;
-    let (integrity, rest) = read_integrity(rest)?;
-    Ok(((train, time, mark, offset, integrity), rest))
-}
+use frame_fields::reading::{
+    number_1, number_2, number_4, read_counts, read_facts, read_fronts, read_id, read_integrity,
+    read_kept, read_numbers, read_offset, read_order, read_ordinal, read_path, read_position,
+    read_step, read_steps, read_time, read_yes,
+};
+use track_points::{SectionId, SwitchId, TrainId};
 
 /// Reads a report.
+#[tactic(auto, unfolding(definitions::specs::FrameLayouts::report, definitions::specs::FrameLayouts::train, definitions::specs::FrameLayouts::any))]
 fn report(bytes: &[u8]) -> Result<(Msg, &[u8]), Unread>
     ensures { Gives (λ x. (x.0, x.1.now)) result (as_read report_of (spec.report.read bytes.now)) }
 {
-    let ((train, time, mark, offset, integrity), rest) = report_fields(bytes)?;
+    let (train, rest) = read_id(bytes)?;
+    let (time, rest) = read_time(rest)?;
+    let (mark, rest) = number_4(rest, 0, u32::MAX)?;
+    let (offset, rest) = read_offset(rest)?;
+    let (integrity, rest) = read_integrity(rest)?;
     Ok((
         Msg::Report {
-            train,
+            train: TrainId(train),
             time,
             mark,
             offset,
@@ -45,16 +37,16 @@ fn report(bytes: &[u8]) -> Result<(Msg, &[u8]), Unread>
 }
 
 /// Reads what a section shows.
-#[tactic(auto, unfolding(definitions::specs::FrameLayouts::reading))]
+#[tactic(auto, unfolding(definitions::specs::FrameLayouts::reading, definitions::specs::FrameLayouts::section))]
 fn reading(bytes: &[u8]) -> Result<(Msg, &[u8]), Unread>
     ensures { Gives (λ x. (x.0, x.1.now)) result (as_read reading_of (spec.reading.read bytes.now)) }
 {
-    let (section, rest) = read_section(bytes)?;
+    let (section, rest) = read_id(bytes)?;
     let (time, rest) = read_time(rest)?;
     let (free, rest) = read_yes(rest)?;
     Ok((
         Msg::Reading {
-            section,
+            section: SectionId(section),
             time,
             free,
         },
@@ -63,27 +55,33 @@ fn reading(bytes: &[u8]) -> Result<(Msg, &[u8]), Unread>
 }
 
 /// Reads the time.
-#[tactic(auto, unfolding(definitions::specs::FrameLayouts::time_told))]
+#[tactic(auto, unfolding(definitions::specs::FrameLayouts::time_told, definitions::specs::FrameLayouts::any_train))]
 fn time_told(bytes: &[u8]) -> Result<(Msg, &[u8]), Unread>
     ensures { Gives (λ x. (x.0, x.1.now)) result (as_read time_told_of (spec.time_told.read bytes.now)) }
 {
     let (time, rest) = read_time(bytes)?;
-    let (train, rest) = read_any_train(rest)?;
-    Ok((Msg::Time { time, train }, rest))
+    let (train, rest) = number_2(rest, 0, u16::MAX)?;
+    Ok((
+        Msg::Time {
+            time,
+            train: TrainId(train),
+        },
+        rest,
+    ))
 }
 
 /// Reads a request for entry.
-#[tactic(auto, unfolding(definitions::specs::FrameLayouts::entry_ask))]
+#[tactic(auto, unfolding(definitions::specs::FrameLayouts::entry_ask, definitions::specs::FrameLayouts::train))]
 fn entry_ask(bytes: &[u8]) -> Result<(Msg, &[u8]), Unread>
     ensures { Gives (λ x. (x.0, x.1.now)) result (as_read entry_ask_of (spec.entry_ask.read bytes.now)) }
 {
-    let (train, rest) = read_train(bytes)?;
+    let (train, rest) = read_id(bytes)?;
     let (time, rest) = read_time(rest)?;
     let ((length, error, speed, equipped), rest) = read_facts(rest)?;
     let (step, rest) = read_step(rest)?;
     Ok((
         Msg::EntryAsk {
-            train,
+            train: TrainId(train),
             time,
             length,
             error,
@@ -96,17 +94,17 @@ fn entry_ask(bytes: &[u8]) -> Result<(Msg, &[u8]), Unread>
 }
 
 /// Reads an ask.
-#[tactic(auto, unfolding(definitions::specs::FrameLayouts::ask))]
+#[tactic(auto, unfolding(definitions::specs::FrameLayouts::ask, definitions::specs::FrameLayouts::train, definitions::specs::FrameLayouts::end))]
 fn ask(bytes: &[u8]) -> Result<(Msg, &[u8]), Unread>
     ensures { Gives (λ x. (x.0, x.1.now)) result (as_read ask_of (spec.ask.read bytes.now)) }
 {
-    let (train, rest) = read_train(bytes)?;
+    let (train, rest) = read_id(bytes)?;
     let (time, rest) = read_time(rest)?;
     let (steps, rest) = read_steps(rest)?;
-    let (to, rest) = read_end(rest)?;
+    let (to, rest) = number_4(rest, 1, 10_000_000)?;
     Ok((
         Msg::Ask {
-            train,
+            train: TrainId(train),
             time,
             steps,
             to,
@@ -116,17 +114,17 @@ fn ask(bytes: &[u8]) -> Result<(Msg, &[u8]), Unread>
 }
 
 /// Reads an answer.
-#[tactic(auto, unfolding(definitions::specs::FrameLayouts::answer))]
+#[tactic(auto, unfolding(definitions::specs::FrameLayouts::answer, definitions::specs::FrameLayouts::train))]
 fn answer(bytes: &[u8]) -> Result<(Msg, &[u8]), Unread>
     ensures { Gives (λ x. (x.0, x.1.now)) result (as_read answer_of (spec.answer.read bytes.now)) }
 {
-    let (train, rest) = read_train(bytes)?;
+    let (train, rest) = read_id(bytes)?;
     let (time, rest) = read_time(rest)?;
     let (number, rest) = read_ordinal(rest)?;
     let (taken, rest) = read_yes(rest)?;
     Ok((
         Msg::Answer {
-            train,
+            train: TrainId(train),
             time,
             number,
             taken,
@@ -136,27 +134,33 @@ fn answer(bytes: &[u8]) -> Result<(Msg, &[u8]), Unread>
 }
 
 /// Reads that a train has left.
-#[tactic(auto, unfolding(definitions::specs::FrameLayouts::gone))]
+#[tactic(auto, unfolding(definitions::specs::FrameLayouts::gone, definitions::specs::FrameLayouts::train))]
 fn gone(bytes: &[u8]) -> Result<(Msg, &[u8]), Unread>
     ensures { Gives (λ x. (x.0, x.1.now)) result (as_read gone_of (spec.gone.read bytes.now)) }
 {
-    let (train, rest) = read_train(bytes)?;
+    let (train, rest) = read_id(bytes)?;
     let (time, rest) = read_time(rest)?;
-    Ok((Msg::Gone { train, time }, rest))
+    Ok((
+        Msg::Gone {
+            train: TrainId(train),
+            time,
+        },
+        rest,
+    ))
 }
 
 /// Reads a switch's echo.
-#[tactic(auto, unfolding(definitions::specs::FrameLayouts::echo))]
+#[tactic(auto, unfolding(definitions::specs::FrameLayouts::echo, definitions::specs::FrameLayouts::switch, definitions::specs::FrameLayouts::any))]
 fn echo(bytes: &[u8]) -> Result<(Msg, &[u8]), Unread>
     ensures { Gives (λ x. (x.0, x.1.now)) result (as_read echo_of (spec.echo.read bytes.now)) }
 {
-    let (switch, rest) = read_switch(bytes)?;
+    let (switch, rest) = read_id(bytes)?;
     let (time, rest) = read_time(rest)?;
-    let (number, rest) = read_any(rest)?;
+    let (number, rest) = number_4(rest, 0, u32::MAX)?;
     let (position, rest) = read_position(rest)?;
     Ok((
         Msg::Echo {
-            switch,
+            switch: SwitchId(switch),
             time,
             number,
             position,
@@ -176,17 +180,17 @@ fn order_told(bytes: &[u8]) -> Result<(Msg, &[u8]), Unread>
 }
 
 /// Reads an authority.
-#[tactic(auto, unfolding(definitions::specs::FrameLayouts::auth))]
+#[tactic(auto, unfolding(definitions::specs::FrameLayouts::auth, definitions::specs::FrameLayouts::train, definitions::specs::FrameLayouts::any))]
 fn auth(bytes: &[u8]) -> Result<(Msg, &[u8]), Unread>
     ensures { Gives (λ x. (x.0, x.1.now)) result (as_read auth_of (spec.auth.read bytes.now)) }
 {
-    let (train, rest) = read_train(bytes)?;
+    let (train, rest) = read_id(bytes)?;
     let (number, rest) = read_ordinal(rest)?;
-    let (mark, rest) = read_any(rest)?;
+    let (mark, rest) = number_4(rest, 0, u32::MAX)?;
     let (path, rest) = read_path(rest)?;
     Ok((
         Msg::Auth {
-            train,
+            train: TrainId(train),
             number,
             mark,
             path,
@@ -196,16 +200,16 @@ fn auth(bytes: &[u8]) -> Result<(Msg, &[u8]), Unread>
 }
 
 /// Reads a command to a switch.
-#[tactic(auto, unfolding(definitions::specs::FrameLayouts::switch_cmd))]
+#[tactic(auto, unfolding(definitions::specs::FrameLayouts::switch_cmd, definitions::specs::FrameLayouts::switch))]
 fn switch_cmd(bytes: &[u8]) -> Result<(Msg, &[u8]), Unread>
     ensures { Gives (λ x. (x.0, x.1.now)) result (as_read switch_cmd_of (spec.switch_cmd.read bytes.now)) }
 {
-    let (switch, rest) = read_switch(bytes)?;
+    let (switch, rest) = read_id(bytes)?;
     let (number, rest) = read_ordinal(rest)?;
     let (position, rest) = read_position(rest)?;
     Ok((
         Msg::SwitchCmd {
-            switch,
+            switch: SwitchId(switch),
             number,
             position,
         },
@@ -214,17 +218,17 @@ fn switch_cmd(bytes: &[u8]) -> Result<(Msg, &[u8]), Unread>
 }
 
 /// Reads an ask for a path of another zone.
-#[tactic(auto, unfolding(definitions::specs::FrameLayouts::lend_ask))]
+#[tactic(auto, unfolding(definitions::specs::FrameLayouts::lend_ask, definitions::specs::FrameLayouts::train, definitions::specs::FrameLayouts::end))]
 fn lend_ask(bytes: &[u8]) -> Result<(Msg, &[u8]), Unread>
     ensures { Gives (λ x. (x.0, x.1.now)) result (as_read lend_ask_of (spec.lend_ask.read bytes.now)) }
 {
-    let (train, rest) = read_train(bytes)?;
+    let (train, rest) = read_id(bytes)?;
     let (ask, rest) = read_ordinal(rest)?;
     let (steps, rest) = read_steps(rest)?;
-    let (to, rest) = read_end(rest)?;
+    let (to, rest) = number_4(rest, 1, 10_000_000)?;
     Ok((
         Msg::LendAsk {
-            train,
+            train: TrainId(train),
             ask,
             steps,
             to,
@@ -234,17 +238,17 @@ fn lend_ask(bytes: &[u8]) -> Result<(Msg, &[u8]), Unread>
 }
 
 /// Reads a path that is lent.
-#[tactic(auto, unfolding(definitions::specs::FrameLayouts::lend))]
+#[tactic(auto, unfolding(definitions::specs::FrameLayouts::lend, definitions::specs::FrameLayouts::train))]
 fn lend(bytes: &[u8]) -> Result<(Msg, &[u8]), Unread>
     ensures { Gives (λ x. (x.0, x.1.now)) result (as_read lend_of (spec.lend.read bytes.now)) }
 {
-    let (train, rest) = read_train(bytes)?;
+    let (train, rest) = read_id(bytes)?;
     let (ask, rest) = read_ordinal(rest)?;
     let (lend, rest) = read_ordinal(rest)?;
     let (path, rest) = read_path(rest)?;
     Ok((
         Msg::Lend {
-            train,
+            train: TrainId(train),
             ask,
             lend,
             path,
@@ -254,27 +258,39 @@ fn lend(bytes: &[u8]) -> Result<(Msg, &[u8]), Unread>
 }
 
 /// Reads what is kept of a lent path.
-#[tactic(auto, unfolding(definitions::specs::FrameLayouts::returned))]
+#[tactic(auto, unfolding(definitions::specs::FrameLayouts::returned, definitions::specs::FrameLayouts::train))]
 fn returned(bytes: &[u8]) -> Result<(Msg, &[u8]), Unread>
     ensures { Gives (λ x. (x.0, x.1.now)) result (as_read returned_of (spec.returned.read bytes.now)) }
 {
-    let (train, rest) = read_train(bytes)?;
+    let (train, rest) = read_id(bytes)?;
     let (lend, rest) = read_ordinal(rest)?;
     let (kept, rest) = read_kept(rest)?;
-    Ok((Msg::Return { train, lend, kept }, rest))
+    Ok((
+        Msg::Return {
+            train: TrainId(train),
+            lend,
+            kept,
+        },
+        rest,
+    ))
 }
 
 /// Reads what was seen.
-#[tactic(auto, unfolding(definitions::specs::FrameLayouts::seen_told))]
+#[tactic(auto, unfolding(definitions::specs::FrameLayouts::seen_told, definitions::specs::FrameLayouts::train, definitions::specs::FrameLayouts::seen_what))]
 fn seen_told(bytes: &[u8]) -> Result<(Msg, &[u8]), Unread>
     ensures { Gives (λ x. (x.0, x.1.now)) result (as_read seen_told_of (spec.seen_told.read bytes.now)) }
 {
-    let (train, rest) = read_train(bytes)?;
-    let (what, rest) = read_seen(rest)?;
+    let (train, rest) = read_id(bytes)?;
+    let (seen, rest) = number_1(rest, 1, 2)?;
     let (number, rest) = read_ordinal(rest)?;
+    let what = if seen == 1 {
+        SeenWhat::Hand
+    } else {
+        SeenWhat::Return
+    };
     Ok((
         Msg::Seen {
-            train,
+            train: TrainId(train),
             what,
             number,
         },
@@ -282,10 +298,10 @@ fn seen_told(bytes: &[u8]) -> Result<(Msg, &[u8]), Unread>
     ))
 }
 
-/// A Hand behind its train.
+/// Reads a hand-over behind its train.
 #[tactic(auto, unfolding(definitions::specs::FrameLayouts::hand_rest))]
-pub fn read_hand_rest(train: TrainId, bytes: &[u8]) -> Result<(Hand, &[u8]), Unread>
-    ensures { Gives (λ x. (x.0, x.1.now)) result (as_read (λ y. spec.hand_of (train, y)) (spec.hand_rest.read bytes.now)) }
+fn hand_rest(train: TrainId, bytes: &[u8]) -> Result<(Msg, &[u8]), Unread>
+    ensures { Gives (λ x. (x.0, x.1.now)) result (as_read (λ y. handed_of (spec.hand_of (train, y))) (spec.hand_rest.read bytes.now)) }
 {
     let (epoch, rest) = read_ordinal(bytes)?;
     let (time, rest) = read_time(rest)?;
@@ -311,16 +327,16 @@ pub fn read_hand_rest(train: TrainId, bytes: &[u8]) -> Result<(Hand, &[u8]), Unr
         mark,
         path,
     };
-    Ok((hand, rest))
+    Ok((Msg::Hand(hand), rest))
 }
 
 /// Reads a hand-over.
-#[tactic(auto, unfolding(definitions::specs::FrameLayouts::hand))]
-fn hand(bytes: &[u8]) -> Result<(Hand, &[u8]), Unread>
-    ensures { Gives (λ x. (x.0, x.1.now)) result (spec.hand.read bytes.now) }
+#[tactic(auto, unfolding(definitions::specs::FrameLayouts::hand, definitions::specs::FrameLayouts::train))]
+fn hand(bytes: &[u8]) -> Result<(Msg, &[u8]), Unread>
+    ensures { Gives (λ x. (x.0, x.1.now)) result (as_read handed_of (spec.hand.read bytes.now)) }
 {
-    let (train, rest) = read_train(bytes)?;
-    read_hand_rest(train, rest)
+    let (train, rest) = read_id(bytes)?;
+    hand_rest(TrainId(train), rest)
 }
 
 /// The fields of a kind that its version has.
@@ -343,17 +359,9 @@ fn body(version: u8, kind: u8, bytes: &[u8]) -> Result<(Msg, &[u8]), Unread>
         12 => lend_ask(bytes),
         13 => lend(bytes),
         14 => returned(bytes),
-        15 => handed(bytes),
+        15 => hand(bytes),
         _ => seen_told(bytes),
     }
-}
-
-/// Reads a hand-over, as a message.
-fn handed(bytes: &[u8]) -> Result<(Msg, &[u8]), Unread>
-    ensures { Gives (λ x. (x.0, x.1.now)) result (as_read handed_of (spec.hand.read bytes.now)) }
-{
-    let (hand, rest) = hand(bytes)?;
-    Ok((Msg::Hand(hand), rest))
 }
 
 /// The place of the first byte of a field, from the number of bytes from it on.

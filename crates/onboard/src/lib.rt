@@ -4,6 +4,3 @@
 pub mod onboard;
 
 pub use onboard::{Onboard, Verdict};
-
-#[cfg(test)]
-mod tests;

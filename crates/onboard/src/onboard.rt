@@ -11,7 +11,7 @@ use track_points::Path;
 use way_path::on_steps::{end_of, total};
 
 /// What a train keeps of its authorities.
-#[derive(Clone, Copy, PartialEq, Eq, Debug)]
+#[derive(Clone, Copy)]
 pub struct Onboard {
     /// How many mm the path of its entry authority has, once it holds one.
     entry: Option<u32>,

@@ -6,8 +6,6 @@
 pub mod ending;
 pub mod outcome;
 mod table;
-#[cfg(test)]
-mod tests;
 mod values;
 
 pub use ending::write_ending;

@@ -16,7 +16,7 @@ use Rattle.plain_state.specs.World.{moved_on}
 use Rattle.plain_state.specs.Refinement.{head_of, pace_of}
 use Rattle.way_laws.proofs.Cut_front.{cut_all}
 use Rattle.event_laws.proofs.Facts_stay.{entered_stays}
-use Rattle.motion_laws.proofs.Motion.{Motion, head_next}
+use Rattle.journey_laws.proofs.Motion.{Motion, head_next}
 use Rattle.journey_laws.proofs.Journey_track.{journey_ends, journey_led}
 use Rattle.invariant_laws.proofs.Invariant.{Invariant}
 use Rattle.invariant_laws.proofs.One_route.{on_controls}

@@ -29,7 +29,7 @@ use Rattle.plain_state.specs.World.{find_train, change_train, head_at_entry, com
 use Rattle.plain_state.specs.Plain.{Plain, by_world as world_next}
 use Rattle.plain_state.specs.Refinement.{mm_of_entry, head_of, pace_of, onboard_of, world_of, world_train, Refines}
 use Rattle.event_laws.proofs.Entered_same.{ever_now}
-use Rattle.motion_laws.proofs.Motion.{heads_rise}
+use Rattle.journey_laws.proofs.Motion.{heads_rise}
 use Rattle.event_laws.proofs.Issued_all.{AllIn, NoAuth}
 use Rattle.invariant_laws.proofs.Invariant.{Invariant}
 use Rattle.refinement_laws.proofs.Find_change.{find_change, find_other, length_change}

@@ -20,7 +20,7 @@ const PIECE: usize = 65_536;
 pub const ROOM: usize = 69_632;
 
 /// Why a document was given up.
-#[derive(Clone, Copy, PartialEq, Eq, Debug)]
+#[derive(Clone, Copy)]
 pub enum Fault {
     /// The sink failed.
     Write,

@@ -17,7 +17,7 @@ use edge_io::stream::{Got, Sink, Source};
 use std::alloc::Global;
 
 /// What cut a run short.
-#[derive(Clone, Copy, PartialEq, Eq, Debug)]
+#[derive(Clone, Copy)]
 pub enum Cut {
     Read,
     Write,

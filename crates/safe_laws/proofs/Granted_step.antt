@@ -37,7 +37,7 @@ use Rattle.way_laws.proofs.Cut_front.{none_between}
 use Rattle.way_laws.proofs.Reach_granted.{reach_granted}
 use Rattle.event_laws.proofs.Issued_all.{AllIn, NoAuth, no_issue, AuthHas}
 use Rattle.event_laws.proofs.Admitted.{Admitted}
-use Rattle.motion_laws.proofs.Motion.{Timed, heads_grow}
+use Rattle.journey_laws.proofs.Motion.{Timed, heads_grow}
 use Rattle.event_laws.proofs.Still_world.{heads_still}
 use Rattle.invariant_laws.proofs.Invariant.{RequestTrue, Invariant}
 use Rattle.event_laws.proofs.Controls_same.{way_controls}

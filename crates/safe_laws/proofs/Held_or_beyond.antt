@@ -16,7 +16,7 @@ use Rattle.definitions.specs.Safe.{IsLineOfOneZone}
 use Rattle.definitions.specs.Zones.{zone_id}
 use Rattle.event_laws.proofs.Controls_same.{controls_stays}
 use Rattle.event_laws.proofs.Facts_stay.{long_stays, first_stays}
-use Rattle.motion_laws.proofs.Motion.{place, place_at_most}
+use Rattle.journey_laws.proofs.Motion.{place, place_at_most}
 use Rattle.invariant_laws.proofs.Invariant.{ControlIs, FrontsAre, Invariant}
 use Rattle.safe_laws.proofs.Points_cases.{range_in, range_least, points_cases}
 use Rattle.front_laws.proofs.Head_place.{place_within}

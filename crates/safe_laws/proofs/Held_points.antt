@@ -19,7 +19,7 @@ use Rattle.definitions.specs.Safe.{IsLineOfOneZone}
 use Rattle.definitions.specs.Zones.{zone_id}
 use Rattle.way_laws.proofs.Cut_front.{cut_points}
 use Rattle.way_laws.proofs.Between_points.{between_points}
-use Rattle.motion_laws.proofs.Motion.{place}
+use Rattle.journey_laws.proofs.Motion.{place}
 use Rattle.invariant_laws.proofs.Invariant.{AuthorityIs, ControlIs, FrontsAre, Invariant}
 use Rattle.invariant_laws.proofs.One_route.{OneRoute, one_route}
 use Rattle.front_laws.proofs.Fronts_numbers.{greatest_front_is}

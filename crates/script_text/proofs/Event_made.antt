@@ -88,7 +88,7 @@ train_made trains (t ∷ len ∷ err ∷ v ∷ kind ∷ []) text x s h =
     made_by 0 (t ∷ len ∷ err ∷ v ∷ kind ∷ []) (is.Train (train_id t) len err v (kind_of kind)) x refl
     (ap (λ m. t ∷ len ∷ err ∷ v ∷ m ∷ []) (kind_again kind s.fit.1.1.1.1.0))
     (tried_ok _ 4 _ x (tried_ok _ 3 _ x (tried_ok _ 2 _ x (tried_ok _ 1 _ x h))))
-train_made trains vs text x s h = absurd cc
+train_made trains vs text x _ h = absurd cc
 
 entry_made : (line : Line) (trains : List ℕ) (vs text : List ℕ) (x : Event) → Says event_forms 1 vs text → entry_of line trains vs ≡ Ok x → Made 1 vs x
 unfolding Says event_forms Fit PartFits
@@ -96,7 +96,7 @@ entry_made line trains (t ∷ s ∷ sign ∷ []) text x q h =
     made_by 1 (t ∷ s ∷ sign ∷ []) (is.Entry (train_id t) (step_of s sign)) x refl
     (ap (λ m. t ∷ s ∷ m ∷ []) (sign_again sign q.fit.1.1.0))
     (tried_ok _ 2 _ x (tried_ok _ 1 _ x h))
-entry_made line trains vs text x q h = absurd cc
+entry_made line trains vs text x _ h = absurd cc
 
 enter_made : (trains : List ℕ) (vs : List ℕ) (x : Event) → enter_of trains vs ≡ Ok x → Made 2 vs x
 enter_made trains (t ∷ []) x h = made_by 2 (t ∷ []) (is.Enter (train_id t)) x refl refl (tried_ok _ 1 _ x h)
@@ -111,7 +111,7 @@ report_made line trains (t ∷ z ∷ s ∷ sign ∷ off ∷ flag ∷ []) text x 
     ∙ (ap (λ m. t ∷ z ∷ s ∷ sign ∷ m ∷ flag_value (nat_eq flag 1) ∷ []) (offset_again off q.fit.1.1.1.1.0.1)
     ∙ ap (λ m. t ∷ z ∷ s ∷ sign ∷ off ∷ m ∷ []) (flag_again flag (tried_test _ 5 _ x four))))
     (tried_ok _ 5 _ x four)
-report_made line trains vs text x q h = absurd cc
+report_made line trains vs text x _ h = absurd cc
 
 detect_made : (line : Line) (vs : List ℕ) (x : Event) → detect_of line vs ≡ Ok x → Made 5 vs x
 detect_made line (d ∷ shown ∷ []) x h = absurd cc
@@ -147,7 +147,7 @@ shorten_made line trains (z ∷ t ∷ s ∷ sign ∷ off ∷ []) text x q h =
     made_by 13 (z ∷ t ∷ s ∷ sign ∷ off ∷ []) (is.Shorten (record { 0 = z }) (train_id t) (step_of s sign) off) x refl
     (ap (λ m. z ∷ t ∷ s ∷ m ∷ off ∷ []) (sign_again sign q.fit.1.1.1.0))
     (tried_ok _ 5 _ x (tried_ok _ 4 _ x (tried_ok _ 3 _ x (tried_ok _ 2 _ x h))))
-shorten_made line trains vs text x q h = absurd cc
+shorten_made line trains vs text x _ h = absurd cc
 
 echo_made : (line : Line) (vs : List ℕ) (x : Event) → echo_of line vs ≡ Ok x → Made 14 vs x
 echo_made line (w ∷ []) x h = absurd cc
@@ -175,7 +175,7 @@ keep_fail_made line (z ∷ fault ∷ []) text x s h =
     made_by 19 (z ∷ fault ∷ []) (is.KeepFail (record { 0 = z }) (keep_of fault)) x refl
     (ap (λ m. z ∷ m ∷ []) (keep_again fault s.fit.1.0))
     (tried_ok _ 1 _ x h)
-keep_fail_made line vs text x s h = absurd cc
+keep_fail_made line vs text x _ h = absurd cc
 
 noise_made : (line : Line) (vs : List ℕ) (x : Event) → noise_of line vs ≡ Ok x → Made 20 vs x
 noise_made line (to ∷ from ∷ bytes) x h = made_by 20 (to ∷ from ∷ bytes) (is.Noise to from (record { items = bytes })) x refl refl (tried_ok _ 2 _ x (tried_ok _ 1 _ x h))
@@ -267,7 +267,7 @@ ask_made line trains (t ∷ z ∷ []) text x s h = absurd (bare (tried_ok _ 2 _ 
     bare e = cc
 ask_made line trains (t ∷ z ∷ n ∷ vs) text x s h =
     ask_by t z (n ∷ vs) (asked_of line 3 (n ∷ vs)) x (λ y e. asked_made line 3 (n ∷ vs) y (ask_signs t z n vs text s) e) (tried_ok _ 2 _ x (tried_ok _ 1 _ x h))
-ask_made line trains vs text x s h = absurd cc
+ask_made line trains vs text x _ h = absurd cc
 
 -- by the places of the table
 pub event_made : (line : Line) (trains : List ℕ) (i : ℕ) (vs text : List ℕ) (x : Event) → Says event_forms i vs text → event_of line trains i vs ≡ Ok x → Made i vs x
@@ -295,7 +295,7 @@ event_made line trains (suc (suc (suc (suc (suc (suc (suc (suc (suc (suc (suc (s
 event_made line trains (suc (suc (suc (suc (suc (suc (suc (suc (suc (suc (suc (suc (suc (suc (suc (suc (suc (suc (suc (suc zero)))))))))))))))))))) vs text x s h = noise_made line vs x h
 event_made line trains (suc (suc (suc (suc (suc (suc (suc (suc (suc (suc (suc (suc (suc (suc (suc (suc (suc (suc (suc (suc (suc zero))))))))))))))))))))) vs text x s h = round_made vs x h
 event_made line trains (suc (suc (suc (suc (suc (suc (suc (suc (suc (suc (suc (suc (suc (suc (suc (suc (suc (suc (suc (suc (suc (suc zero)))))))))))))))))))))) vs text x s h = lost_made line vs x h
-event_made line trains i vs text x s h = absurd cc
+event_made line trains i vs text x _ h = absurd cc
 
 -- the lists have room
 

@@ -1,6 +1,10 @@
--- Events whose lists were filled in their place.
-use Rattle.std.proofs.Common.{◌≡◌, ℕ, ◌-◌, ◌≤◌, List, [], ◌∷◌, length, take, drop, Bool, true, false, slice_index_or, Result, Ok, Err, sym, ap, subst, ◌∙◌, arith}
+-- Events whose lists were filled in their place, and reports.
+use Rattle.std.proofs.Common.{◌≡◌, ℕ, ◌-◌, ◌≤◌, ℤ, List, [], ◌∷◌, length, take, drop, Bool, true, false, nat_eq, nat_le, slice_index_or, Result, Ok, Err, refl, sym, ap, subst, ◌∙◌, arith}
 use Rattle.std.proofs.lemmas.List.{take_all}
+use Rattle.std.proofs.lemmas.Bool.Decides.{nat_tests}
+use Rattle.std.proofs.lemmas.Int.{to_z-of_z}
+use mir.Val.{SFits, to_z, of_z}
+use mir.Syntax.{w32}
 use Rattle.arrayvec.specs.ArrayVec.{ArrayVec}
 use Rattle.track_points.specs.declared.ids.TrainId.{TrainId}
 use Rattle.track_points.specs.declared.ids.ZoneId.{ZoneId}
@@ -10,7 +14,7 @@ use Rattle.definitions.specs.declared.event.Event.{Event}
 use Rattle.definitions.specs.declared.event.Event.TheVariants as is
 use Rattle.definitions.specs.declared.document.EventLine.{EventLine}
 use Rattle.definitions.specs.declared.document.EventLine.TheVariants as tells
-use Rattle.definitions.specs.EventFields.{tried, names_train, names_zone, train_id, and_ms, and_asks, moves_of, asked_of, step_event_of, ask_of}
+use Rattle.definitions.specs.EventFields.{tried, names_train, names_zone, names_segment, is_offset, offset_of, step_of, train_id, and_ms, and_asks, moves_of, asked_of, step_event_of, ask_of, report_of}
 use Rattle.script_text.specs.Sees.{Makes, Puts, PutsAsked}
 
 -- a field that is not refused
@@ -64,3 +68,18 @@ ask_here u line trains (t ∷ z ∷ vs) train zone to old steps code le a b e f 
 -- the same of a step
 pub lent_moves : (e : Event) (n m : ℕ) (empty old : ArrayVec (TrainId × ℕ)) → tells.Event (is.Step n empty) ≡ tells.Event e → e ≡ is.Step m old → old ≡ empty
 lent_moves e n m empty old h k = cc
+
+-- a report, whose offset was a number of the machine
+pub report_here : {U : Type 0} (u : U) (line : Line) (trains vs : List ℕ) (step : DirSeg) (off : ℤ) → length vs ≡ 6 → names_train trains (slice_index_or vs 0 0) ≡ true → names_zone line (slice_index_or vs 1 0) ≡ true → names_segment line (slice_index_or vs 2 0) ≡ true → slice_index_or vs 5 0 ≤ 1 → step ≡ step_of (slice_index_or vs 2 0) (slice_index_or vs 3 0) → (is_offset (slice_index_or vs 4 0) ≡ true) × (off ≡ offset_of (slice_index_or vs 4 0)) → SFits w32 off → Makes (Ok u) (tells.Event (is.Report (train_id (slice_index_or vs 0 0)) (record { 0 = slice_index_or vs 1 0 }) step (to_z w32 (of_z w32 off)) (nat_eq (slice_index_or vs 5 0) 1))) (report_of line trains vs)
+report_here u line trains (t ∷ z ∷ s ∷ sign ∷ off ∷ flag ∷ []) step o e a b d small st h fits =
+    let event = λ (at : DirSeg) (n : ℤ). is.Report (train_id t) (record { 0 = z }) at n (nat_eq flag 1) in
+    let new = tells.Event (event step (to_z w32 (of_z w32 o))) in
+    let same : new ≡ tells.Event (event (step_of s sign) (offset_of off)) = ap (λ n. tells.Event (event step n)) (to_z-of_z w32 o fits ∙ h.1) ∙ ap (λ at. tells.Event (event at (offset_of off))) st in
+    let read = Ok (event (step_of s sign) (offset_of off)) in
+    let five = tried (nat_le flag 1) 5 read in
+    made_by u new (names_train trains t) 1 (tried (names_zone line z) 2 (tried (names_segment line s) 3 (tried (is_offset off) 4 five))) a
+    (made_by u new (names_zone line z) 2 (tried (names_segment line s) 3 (tried (is_offset off) 4 five)) b
+    (made_by u new (names_segment line s) 3 (tried (is_offset off) 4 five) d
+    (made_by u new (is_offset off) 4 five h.0
+    (made_by u new (nat_le flag 1) 5 read (grind (arith, nat_tests)) same))))
+report_here u line trains vs step o e a b d small st h fits = absurd (omega arith)

@@ -12,8 +12,6 @@ mod names;
 pub mod read;
 mod slice;
 mod table;
-#[cfg(test)]
-mod tests;
 mod values;
 pub mod write;
 

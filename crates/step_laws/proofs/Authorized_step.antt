@@ -10,11 +10,11 @@ use Rattle.definitions.specs.Longest.{counted, longest_end, shrink_place}
 use Rattle.definitions.specs.Steps.{effects}
 use Rattle.definitions.specs.Safe.{IsLineOfOneZone}
 use Rattle.definitions.specs.Zones.{zone_id}
-use Rattle.motion_laws.proofs.Motion.{place, Timed}
+use Rattle.journey_laws.proofs.Motion.{place, Timed}
 use Rattle.event_laws.proofs.Issued_all.{AllIssued}
 use Rattle.event_laws.proofs.Admitted.{Admitted}
 use Rattle.event_laws.proofs.By_does.{effect_event}
-use Rattle.motion_laws.proofs.Head_step.{enter_once}
+use Rattle.journey_laws.proofs.Head_step.{enter_once}
 use Rattle.invariant_laws.proofs.Invariant.{RequestTrue, Authorized, Invariant}
 use Rattle.event_laws.proofs.Last_quiet.{last_grows}
 use Rattle.front_laws.proofs.Taken_counts.{cuts}

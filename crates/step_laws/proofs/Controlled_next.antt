@@ -25,8 +25,8 @@ use Rattle.event_laws.proofs.Still_world.{off_number}
 use Rattle.event_laws.proofs.Controls_same.{controls_same, controls_stays, known_same}
 use Rattle.event_laws.proofs.Grant_takes.{quiet_grants}
 use Rattle.event_laws.proofs.Last_quiet.{last_quiet, last_grows}
-use Rattle.motion_laws.proofs.Motion.{place, place_at_most}
-use Rattle.motion_laws.proofs.Head_step.{enter_once}
+use Rattle.journey_laws.proofs.Motion.{place, place_at_most}
+use Rattle.journey_laws.proofs.Head_step.{enter_once}
 use Rattle.invariant_laws.proofs.Invariant.{AuthorityIs, AuthIs, AuthTrue, FrontsAre, SomeIs, ControlIs, EntryHeld, LimitIs, Authorized}
 use Rattle.invariant_laws.proofs.One_route.{numbered_controls, on_controls}
 use Rattle.front_laws.proofs.Taken_counts.{cuts}

@@ -6,8 +6,8 @@ use Rattle.definitions.specs.Safe.{IsLineOfOneZone, Kept}
 use Rattle.definitions.specs.Story.{Story}
 use Rattle.definitions.specs.Steps.{effects, story_of}
 use Rattle.event_laws.proofs.Admitted.{Admitted, admitted}
-use Rattle.motion_laws.proofs.Motion.{Timed, motion_start, motion_step, heads_grow}
-use Rattle.motion_laws.proofs.Timed_story.{timed_step, timed_story}
+use Rattle.journey_laws.proofs.Motion.{Timed, motion_start, motion_step, heads_grow}
+use Rattle.journey_laws.proofs.Timed_story.{timed_step, timed_story}
 use Rattle.invariant_laws.proofs.Invariant.{Invariant}
 use Rattle.invariant_laws.proofs.Journeys_stay.{journeys_start, journeys_stay}
 use Rattle.step_laws.proofs.Authorized_step.{authorized_start, authorized_step, end_grows, end_cut}

@@ -29,7 +29,7 @@ use Rattle.definitions.specs.Steps.{path_to, sent_again, front_after, zone_step,
 use Rattle.definitions.specs.Safe.{IsLineOfOneZone}
 use Rattle.event_laws.proofs.Zone_issues.{entry_cases, ask_cases, time_cases, short_cases}
 use Rattle.definitions.specs.Zones.{zone_id}
-use Rattle.motion_laws.proofs.Motion.{Motion}
+use Rattle.journey_laws.proofs.Motion.{Motion}
 use Rattle.event_laws.proofs.Issued_all.{no_issue, NoAuth}
 use Rattle.way_laws.proofs.Reach_granted.{reach_granted}
 use Rattle.event_laws.proofs.Controls_same.{controls_knows, way_controls}

@@ -19,9 +19,9 @@ use Rattle.event_laws.proofs.Still_world.{head_still, number_on, limit_on, numbe
 use Rattle.definitions.specs.Zones.{zone_id}
 use Rattle.event_laws.proofs.Admitted.{Admitted}
 use Rattle.event_laws.proofs.Entered_same.{entered_same}
-use Rattle.motion_laws.proofs.Motion.{Motion, head_on, head_next, place_grows, heads_grow, motion_step}
+use Rattle.journey_laws.proofs.Motion.{Motion, head_on, head_next, place_grows, heads_grow, motion_step}
 use Rattle.event_laws.proofs.By_does.{effect_event}
-use Rattle.motion_laws.proofs.Head_step.{head_step, enter_once}
+use Rattle.journey_laws.proofs.Head_step.{head_step, enter_once}
 use Rattle.invariant_laws.proofs.Invariant.{end_read, AuthorityIs, AuthIs, FirstIs, LimitIs, Authorized}
 use Rattle.invariant_laws.proofs.One_route.{first_end, portal_end}
 use Rattle.invariant_laws.proofs.First_steps.{end_same}

@@ -351,6 +351,21 @@ zone 1
 brake 50 0 100001
 - 3
 line 2 rule 4
+= rule 4 of brake, its ticks past 2^16
+zone 1
+brake 65586 0 1000
+- 3
+line 2 rule 4
+= rule 4 of brake, its runaway past 2^32
+zone 1
+brake 50 4294967296 1000
+- 3
+line 2 rule 4
+= rule 4 of brake, its rate past 2^32
+zone 1
+brake 50 0 4294968296
+- 3
+line 2 rule 4
 = rule 18 of the rate
 + four segments
 brake 50 0 150
@@ -402,34 +417,116 @@ switch 0 9+ 9- 9- 0
 - 10
 unbuilt 2";
 
-/// The column of each text line that is no item, and the text line; the word of a run and of a race are none.
-pub const COLUMNS: &str = "1 Zone 1
-1  zone 1
-1 \tzone 1
-1 enter 7
-2 scrip
-2 script x
-2 plan 1
-5 zone
-5 zone\t1
-6 zone\x20
-6 zone -1
-7 zone 01
-7 zone 1\x20
-7 zone 1\r
-19 zone 12345678901234
-12 segment 1 1
-8 joint 1 + 2-
-11 joint 1+ 1
-18 switch 1 2+ 3- 4-
-10 section 1
-14 section 1 1:0
-28 section 1 1:0:5 1:5:6 1:6:7 1:7:8
-9 block 1 x
-10 block 1 +
-11 brake 50 0
-9 portal 1
-15 silent 3600000+";
+/// Text lines that are no item, each refused at its column; the word of a race is none.
+const ITEMS: &str = "
+= refused at column 1
+Zone 1
+- 3
+line 1 column 1
+= refused at column 1
+ zone 1
+- 3
+line 1 column 1
+= refused at column 1
+\tzone 1
+- 3
+line 1 column 1
+= refused at column 1
+enter 7
+- 3
+line 1 column 1
+= refused at column 2
+scrip
+- 3
+line 1 column 2
+= refused at column 2
+script x
+- 3
+line 1 column 2
+= refused at column 2
+plan 1
+- 3
+line 1 column 2
+= refused at column 5
+zone
+- 3
+line 1 column 5
+= refused at column 5
+zone\t1
+- 3
+line 1 column 5
+= refused at column 6
+zone\x20
+- 3
+line 1 column 6
+= refused at column 6
+zone -1
+- 3
+line 1 column 6
+= refused at column 7
+zone 01
+- 3
+line 1 column 7
+= refused at column 7
+zone 1\x20
+- 3
+line 1 column 7
+= refused at column 7
+zone 1\r
+- 3
+line 1 column 7
+= refused at column 19
+zone 12345678901234
+- 3
+line 1 column 19
+= refused at column 12
+segment 1 1
+- 3
+line 1 column 12
+= refused at column 8
+joint 1 + 2-
+- 3
+line 1 column 8
+= refused at column 11
+joint 1+ 1
+- 3
+line 1 column 11
+= refused at column 18
+switch 1 2+ 3- 4-
+- 3
+line 1 column 18
+= refused at column 10
+section 1
+- 3
+line 1 column 10
+= refused at column 14
+section 1 1:0
+- 3
+line 1 column 14
+= refused at column 28
+section 1 1:0:5 1:5:6 1:6:7 1:7:8
+- 3
+line 1 column 28
+= refused at column 9
+block 1 x
+- 3
+line 1 column 9
+= refused at column 10
+block 1 +
+- 3
+line 1 column 10
+= refused at column 11
+brake 50 0
+- 3
+line 1 column 11
+= refused at column 9
+portal 1
+- 3
+line 1 column 9
+= refused at column 15
+silent 3600000+
+- 3
+line 1 column 15";
 
 /// Text lines and their forms.
 const TEXTS: &str = "
@@ -2877,9 +2974,9 @@ done 24";
 
 /// All tables.
 pub const TABLES: &[&str] = &[
-    WORKED, RULES, TEXTS, MESSAGES, SEVERAL, MOTION, PREMISES, REPORTS, SILENCE, DELIVERIES, FORMS,
-    NOISE, CHECKS, CLOSURES, SHRINKS,
+    WORKED, RULES, ITEMS, TEXTS, MESSAGES, SEVERAL, MOTION, PREMISES, REPORTS, SILENCE, DELIVERIES,
+    FORMS, NOISE, CHECKS, CLOSURES, SHRINKS,
 ];
 
 /// How many rows stand in them.
-pub const ROWS: u32 = 225;
+pub const ROWS: u32 = 255;

@@ -3,6 +3,7 @@ ghost use Rattle.std.specs.Prelude.{◌≡◌, true, IfOk};
 ghost use Rattle.definitions.specs.Rules.{is_line};
 
 use arrayvec::ArrayVec;
+use braking_table::Brake;
 use line_map::{End, Item, Line, LineBuilder, LineFault};
 use std::alloc::Global;
 use track_points::{Dir, DirSeg, Path, SegId, ZoneId};
@@ -92,7 +93,12 @@ fn listed(line: &Line, k: usize) -> [u32; 2] {
     [zone, segment]
 }
 
-/// Whether the line tells of its segments and its zone what the items say.
+/// Whether a brake is that of a line in which no item says one.
+fn is_default(brake: Brake) -> bool {
+    brake.ticks == 50 && brake.runaway == 0 && brake.rate == 1000
+}
+
+/// Whether the line tells of its segments and its zone what the items say, and its brake.
 fn tells_all(line: &Line) -> bool {
     declared(line, 1) == [1000, 3]
         && declared(line, 2) == [500, 3]
@@ -103,6 +109,7 @@ fn tells_all(line: &Line) -> bool {
         && listed(line, 2) == [0, 3]
         && listed(line, 3) == [0, 0]
         && line.silent() == 5000
+        && is_default(line.brake())
         && line.follows(up(2), down(3))
         && !line.follows(up(1), down(3))
         && line.begins_at_portal(up(1))

@@ -1,4 +1,4 @@
-//! A train from its declaration on: it asks for entry, comes on, reports, decides on authorities, and moves; orders and noise.
+//! A train from its declaration on: it asks for entry, comes on, reports, decides on authorities, and moves.
 ghost use Rattle.std.specs.Prelude.{◌≡◌, true, length, IfOk};
 ghost use Rattle.definitions.specs.Rules.{is_line};
 ghost use Rattle.definitions.specs.Premises.{ascending};
@@ -7,10 +7,10 @@ ghost use Rattle.world_sim.specs.World.{StepFits, IsBuilt, IsWorldOn};
 use crate::tests::line::{line_of, path, steps_of, up};
 use arrayvec::ArrayVec;
 use definitions::event::{Event, Kind};
-use definitions::message::{Msg, Order};
-use definitions::outcome::AnswerWord;
+use definitions::message::Msg;
+use definitions::outcome::{AnswerWord, Outcome};
 use line_map::Line;
-use msg_codec::{FrameFault, Outcome, Outs};
+use msg_codec::Outs;
 use std::alloc::{AllocError, Global};
 use std::process::Abort;
 use track_points::{DirSeg, SegId, TrainId, ZoneId};
@@ -217,7 +217,7 @@ fn moves_on(rt: &impl Abort, world: &mut World, line: &Line, outs: &mut Outs)
     assert!(rt; world.clock() == 30 && place_of(world) == Some((1000, 300)));
 }
 
-/// The train stands, and segments are closed and opened.
+/// The train stands, and a segment is closed.
 fn stands(rt: &impl Abort, world: &mut World, line: &Line, outs: &mut Outs)
     requires { IsWorldOn line.now world.old }
     ensures { IsWorldOn line.now world.new }
@@ -226,37 +226,17 @@ fn stands(rt: &impl Abort, world: &mut World, line: &Line, outs: &mut Outs)
     let nearer = (7, [1, 2], 299, (7, AnswerWord::Taken), 299);
     decides(rt, world, line, &nearer, outs);
     assert!(rt; go(rt, world, line, &Event::Close(SegId(2)), outs) == 1);
-    assert!(rt; is_order(outs, Order::Close(SegId(2))));
-    assert!(rt; go(rt, world, line, &Event::Open(SegId(2)), outs) == 1);
-    assert!(rt; is_order(outs, Order::Open(SegId(2))));
 }
 
-/// Whether this one order is sent to zone 3, at the time 31.
-fn is_order(outs: &Outs, wanted: Order) -> bool {
-    match outs.messages() {
-        [(to, Msg::Order { time, order })] => *to == 3 && *time == 31 && *order == wanted,
-        _ => false,
-    }
-}
-
-fn noise(bytes: &[u8]) -> Event {
-    let mut list = ArrayVec::new();
-    let _ = list.try_extend_from_slice(bytes);
-    Event::Noise(3, 0, list)
-}
-
-/// Noise tells its first fault; a frame is none. A marker and a loss do nothing.
-fn hears_noise(rt: &impl Abort, world: &mut World, line: &Line, outs: &mut Outs)
+/// The train from its declaration on.
+fn drives(rt: &impl Abort, world: &mut World, line: &Line, outs: &mut Outs)
     requires { IsWorldOn line.now world.old }
-    ensures { IsWorldOn line.now world.new }
 {
-    assert!(rt; go(rt, world, line, &noise(&[2]), outs) == 0);
-    let told = matches!(outs.lines(), [Outcome::Noise(3, FrameFault::Version)]);
-    assert!(rt; told);
-    let time = [1, 3, 0, 0, 0, 0, 0, 0, 0, 30, 0, 7];
-    assert!(rt; go(rt, world, line, &noise(&time), outs) == 106);
-    assert!(rt; go(rt, world, line, &Event::Round(1), outs) == 0 && outs.lines().is_empty());
-    assert!(rt; go(rt, world, line, &Event::Lost(0, 3, 1), outs) == 0 && outs.lines().is_empty());
+    asks_for_entry(rt, world, line, outs);
+    comes_on(rt, world, line, outs);
+    decides_all(rt, world, line, &STANDING, outs);
+    moves_on(rt, world, line, outs);
+    stands(rt, world, line, outs);
 }
 
 #[test]
@@ -270,10 +250,5 @@ fn a_train_comes_on_and_moves(rt: HostRuntime) {
     let Ok(mut outs) = Outs::new(rt.alloc()) else {
         panic!(rt; "want of memory");
     };
-    asks_for_entry(&rt, &mut world, &line, &mut outs);
-    comes_on(&rt, &mut world, &line, &mut outs);
-    decides_all(&rt, &mut world, &line, &STANDING, &mut outs);
-    moves_on(&rt, &mut world, &line, &mut outs);
-    stands(&rt, &mut world, &line, &mut outs);
-    hears_noise(&rt, &mut world, &line, &mut outs);
+    drives(&rt, &mut world, &line, &mut outs);
 }

@@ -1,4 +1,5 @@
-use Rattle.std.proofs.Common.{◌∙◌}
+use Rattle.std.proofs.Common.{◌∙◌, sym}
+use Rattle.std.proofs.lemmas.Bool.{false≢true}
 use Rattle.run_engine.proofs.Goes_read.{ends_read, goes_read, read_is}
 use Rattle.run_engine.proofs.stage.run_event.Goals as goal
 
@@ -16,3 +17,6 @@ returns-in-Premise c = λ text. let l = (rw c.in-Premise.is at c.in_ok-read.ensu
 
 pub returns-in-Goes : goal.returns-in-Goes
 returns-in-Goes c = λ text. let l = (rw c.in-Goes.is at c.in_ok-read.ensures).1 c.args.n in goes_read _ c.args.count.now c.args.system.now c.read.new.self _ _ _ _ c.requires.empty l text l.ending ∙ read_is _ _ _ _ _
+
+pub unreachable-requires : goal.unreachable-requires
+unreachable-requires c = false≢true (sym (rw c.in-Unbuilt.is at c.in_ok-read.ensures).0 ∙ c.requires.built)

@@ -27,3 +27,10 @@ returns c = λ n.
     alone_leads c.args.self.now c.args.event.now c.requires.within c.requires.alone n _ _ _
     (has_room c.args.self.now.events (story_of c.args.self.now.line c.args.self.now.events) (sym c.is_full.ensures ∙ c.if-is_full.false) (sym c.is_past_messages.ensures ∙ c.if-is_past_messages.false))
     (sym c.premise-premise.ensures ∙ c.if-premise-ne0.false) c.in_ok-go.ensures.history c.in_ok-go.ensures.lines
+
+pub go-requires-clause-kept : goal.go-requires-clause-kept
+go-requires-clause-kept c = sym c.premise-premise.ensures ∙ c.if-premise-ne0.false
+
+pub go-requires-clause-room : goal.go-requires-clause-room
+go-requires-clause-room c =
+    has_room c.args.self.now.events (story_of c.args.self.now.line c.args.self.now.events) (sym c.is_full.ensures ∙ c.if-is_full.false) (sym c.is_past_messages.ensures ∙ c.if-is_past_messages.false)

@@ -1,0 +1,175 @@
+//! What a train decides, with verdicts that were worked out by hand.
+ghost use Rattle.std.specs.Prelude.{◌≡◌, true};
+ghost use Rattle.onboard.specs.Decision.{has_entered};
+
+use crate::tests::line::path;
+use crate::tests::rows::numbers;
+use braking_table::{Brake, Table};
+use line_map::{End, Item, Line, LineBuilder, LineFault};
+use onboard::Verdict::{Refused, Repeat, Taken};
+use onboard::{Onboard, Verdict};
+use std::alloc::Global;
+use std::process::Abort;
+use track_points::{Dir, DirSeg, SegId};
+
+fn end(segment: u64, dir: Dir) -> End {
+    End { segment, dir }
+}
+
+/// Segment 1 of 100 mm after a portal, segment 2 of 50 mm, and segment 3 of 30 mm.
+fn line_of(alloc: Global) -> Result<Line, LineFault> {
+    let mut builder = LineBuilder::new(alloc).map_err(|_| LineFault::Memory)?;
+    let items = [
+        Item::Zone(1),
+        Item::Segment(1, 1, 100),
+        Item::Segment(2, 1, 50),
+        Item::Segment(3, 1, 30),
+        Item::Joint(end(1, Dir::Up), end(2, Dir::Down)),
+        Item::Joint(end(2, Dir::Up), end(3, Dir::Down)),
+        Item::Portal(end(1, Dir::Down)),
+        Item::Buffer(end(3, Dir::Up)),
+    ];
+    for item in &items {
+        builder.add(item)?;
+    }
+    builder.finish()
+}
+
+/// A train of 40 mm comes on over segment 1: its head has 60 mm up to the limit.
+fn entered(rt: &impl Abort, line: &Line) -> Onboard
+    ensures { has_entered result ≡ true }
+{
+    let mut train = Onboard::new();
+    train.keep_entry(line, &path(&STEPS[..1], 0, 100));
+    assert!(rt; train.entry() == Some(100));
+    train.enter(line, 40);
+    train
+}
+
+/// The steps of the line.
+const STEPS: [DirSeg; 3] = [
+    DirSeg {
+        seg: SegId(1),
+        dir: Dir::Up,
+    },
+    DirSeg {
+        seg: SegId(2),
+        dir: Dir::Up,
+    },
+    DirSeg {
+        seg: SegId(3),
+        dir: Dir::Up,
+    },
+];
+
+/// The number that the train has refused before, 0 for none. Then an authority, by its number and its mark, how many steps
+/// its path has and its two offsets, and how many mm the train needs to stop. It has 5 steps behind its head, and is at the
+/// offset 40. Its room from then on, and what it answers. Numbers that are not above the last; numbers above it; limits at the one
+/// that it holds, ahead of the head, at the head and before it; marks and offsets at which the head is on the path or not; no path.
+const ROWS: &str = "0 0 5 3 0 30 0 60 repeats 1 taken
+0 1 5 3 0 30 0 60 repeats 1 taken
+4 3 5 3 0 30 0 60 repeats 4 refused
+4 4 5 3 0 30 0 60 repeats 4 refused
+4 4 9 3 0 30 0 60 repeats 4 refused
+0 2 5 3 0 30 0 140 takes
+4 5 5 3 0 30 1000 140 takes
+0 4294967295 5 2 0 0 0 60 takes
+0 2 5 1 0 100 1000 60 takes
+0 2 5 1 0 99 1000 60 refuses
+0 2 5 1 0 99 59 59 takes
+0 2 5 1 0 98 59 60 refuses
+0 2 5 1 0 40 0 0 takes
+0 2 5 1 0 39 0 60 refuses
+0 2 6 3 0 30 0 60 refuses
+0 2 2 3 0 30 0 60 refuses
+0 2 0 3 0 30 0 60 refuses
+0 2 4 3 100 30 0 40 takes
+0 2 3 3 0 30 0 60 refuses
+0 2 5 3 40 30 0 140 takes
+0 2 5 3 41 30 0 60 refuses
+0 2 5 0 0 0 0 60 refuses
+0 2 5 1 0 101 0 60 refuses
+0 2 5 2 101 50 0 60 refuses";
+
+/// Whether a row ends with what a train answers.
+fn tells(row: &str, verdict: Verdict) -> bool {
+    match verdict {
+        Taken => row.ends_with(" takes"),
+        Refused => row.ends_with(" refuses"),
+        Repeat(1, true) => row.ends_with(" repeats 1 taken"),
+        Repeat(4, false) => row.ends_with(" repeats 4 refused"),
+        Repeat(_, _) => false,
+    }
+}
+
+/// Whether a train that has come on decides as the row tells.
+fn decides(line: &Line, train: Onboard, row: &str) -> bool
+    requires { has_entered train ≡ true }
+{
+    let row_numbers = numbers(row);
+    let [refused, number, mark, count, from, to, stop, room] = row_numbers.as_slice() else {
+        return false;
+    };
+    let steps = &STEPS[..(*count as usize).min(3)];
+    let mut next = train;
+    let _ = next.refuse(*refused);
+    let found = next.take_auth(line, *number, *mark, &path(steps, *from, *to), 5, 40, *stop);
+    tells(row, found) && next.room() == *room
+}
+
+#[test]
+fn decides_on_authorities(rt: HostRuntime) {
+    let Ok(line) = line_of(rt.alloc()) else {
+        panic!(rt; "no line");
+    };
+    let train = entered(&rt, &line);
+    for row in ROWS.split('\n') {
+        assert!(rt; decides(&line, train, row), "{row}");
+    }
+}
+
+/// How far a train moves, its room from then on, and whether it may go at 100 mm/s.
+const MOVES: [(u32, u32, bool); 3] = [(53, 7, true), (54, 6, true), (55, 5, false)];
+
+/// Tries a train of 60 mm of room on a line with a brake.
+fn try_moves(rt: &impl Abort, train: Onboard, table: &Table)
+    requires { has_entered train ≡ true }
+{
+    for (mm, room, permitted) in MOVES {
+        let mut next = train;
+        assert!(rt; mm <= next.room());
+        next.moved(mm);
+        assert!(rt;
+            next.room() == room && next.permits(table, 100) == permitted,
+            "at {mm}"
+        );
+    }
+    let mut next = train;
+    assert!(rt; next.refuse(2) == Refused && next.refuse(2) == Repeat(2, false));
+}
+
+#[test]
+fn moves_up_to_its_limit(rt: HostRuntime) {
+    let Ok(line) = line_of(rt.alloc()) else {
+        panic!(rt; "no line");
+    };
+    let brake = Brake {
+        ticks: 0,
+        runaway: 0,
+        rate: 1_000,
+    };
+    let Ok(table) = Table::new(brake) else {
+        panic!(rt; "no table");
+    };
+    try_moves(&rt, entered(&rt, &line), &table);
+}
+
+#[test]
+fn an_entry_out_of_range_has_no_mm(rt: HostRuntime) {
+    let Ok(line) = line_of(rt.alloc()) else {
+        panic!(rt; "no line");
+    };
+    let mut train = Onboard::new();
+    train.keep_entry(&line, &path(&STEPS[..1], 0, 101));
+    assert!(rt; train.entry() == Some(0));
+}

@@ -1,0 +1,260 @@
+//! Events as text, and the columns of texts that are none or have a refused field. The trains 7 and 8 are declared, on a line of
+//! one zone and two segments with a portal.
+
+ghost use Rattle.std.specs.Prelude.{◌∷◌, []};
+ghost use Rattle.definitions.specs.EventFields.{has_train};
+
+use arrayvec::ArrayVec;
+use definitions::document::EventLine;
+use definitions::item::{End, Item};
+use definitions::trains::DeclaredTrains;
+use edge_io::memory::VecSink;
+use line_map::{Line, LineBuilder, LineFault};
+use script_text::{Values, event_line, read_event, write_event};
+use std::alloc::{AllocError, Global};
+use std::process::Abort;
+use track_points::{Dir, TrainId};
+
+/// Events of each form that the line and the trains allow.
+const EVENTS: &str = "train 9 1000 0 1 eq
+train 65535 1000000 999999 60000 un
+entry 7 1+
+enter 7
+step 5
+step 5 7 0 8 3600000
+report 7 1 2+ -1000000 1
+report 7 1 2- 11000000 0
+scan
+time 1 0
+time 1 7
+ask 7 1 1+ 1
+ask 7 1 1+ 2+ 1- 10000000
+order close 1
+order open 2
+order short 1 7 2+ 5
+leave 7
+take 1 0 1
+take 0 1 4294967295
+deliver 0
+restart 1
+keepfail 1 old
+keepfail 1 new
+keepfail 1 get
+noise 1 0 00
+noise 0 1 ff7a
+round 2000
+lost 1 0 5";
+
+/// The column of each text, and the text.
+const REFUSED: &str = "11 take 1 0 01
+10 take 1 0 9999999999
+8 take 1 1 1
+8 take 1 2 1
+6 take 2 0 1
+16 report 7 1 2+ -0 1
+11 ask 7 1 2+
+82 ask 7 1 1+ 1+ 1+ 1+ 1+ 1+ 1+ 1+ 1+ 1+ 1+ 1+ 1+ 1+ 1+ 1+ 1+ 1+ 1+ 1+ 1+ 1+ 1+ 1+ 1+
+9 step 5 7
+5 scan\x20
+7 train 7 100 0 1 eq
+7 train 0 100 0 1 eq
+9 train 9 0 0 1 eq
+11 train 9 5 5 1 eq
+13 train 9 5 0 0 eq
+7 entry 9 1+
+9 entry 7 1-
+9 entry 7 2+
+7 enter 9
+6 step 0
+8 step 5 9 1
+10 step 5 7 3600001
+12 step 5 8 1 7 1
+8 report 9 1 2+ 0 1
+10 report 7 2 2+ 0 1
+12 report 7 1 9+ 0 1
+15 report 7 1 2+ -1000001 1
+17 report 7 1 2+ 0 2
+8 detect 1 free
+6 time 2 0
+8 time 1 9
+9 ask 7 1 3+ 5
+12 ask 7 1 1+ 0
+13 order close 3
+12 order open 0
+12 order turn 1 +
+11 order set 1 normal
+20 order short 1 7 2+ -5
+6 echo 1
+7 leave 9
+9 deliver 2
+9 restart 2
+10 keepfail 2 old
+9 noise 1 1 00
+12 noise 1 0 0A
+7 round 2001
+8 lost 0 0 1
+10 lost 1 0 0";
+
+/// What each text line says, and the text line: a column, or one of the words.
+const LINES: &str = "passed\x20
+passed #
+13 order close 9
+event order close 2
+12 order open 9
+event order open 1
+unbuilt order turn 1 +
+unbuilt leave 9
+9 noise 1 1 00
+event noise 1 0 00
+7 round 2001
+8 lost 0 0 5
+event lost 0 1 4294967295
+unbuilt train 7 60 2 20 un
+7 train 7 60 2 20 eq
+event train 9 60 2 20 eq
+7 enter 9
+5 entr
+event step 5 8 3600000
+10 step 5 7 3600001
+9 ask 7 1 3+ 5
+event ask 7 1 1+ 2+ 5";
+
+/// An end of a segment.
+fn end_of(segment: u64, dir: Dir) -> End {
+    End { segment, dir }
+}
+
+/// The line of the tests.
+fn line_of(alloc: Global) -> Result<Line, LineFault> {
+    let items = [
+        Item::Zone(1),
+        Item::Segment(1, 1, 1000),
+        Item::Segment(2, 1, 500),
+        Item::Joint(end_of(1, Dir::Up), end_of(2, Dir::Down)),
+        Item::Portal(end_of(1, Dir::Down)),
+        Item::Buffer(end_of(2, Dir::Up)),
+    ];
+    let mut builder = LineBuilder::new(alloc).map_err(|_| LineFault::Memory)?;
+    for item in &items {
+        builder.add(item)?;
+    }
+    builder.finish()
+}
+
+/// The column at which a text is refused; 0 where it is an event.
+fn column(text: &[u8], line: &Line) -> u32 {
+    match read_event(text, line, &[TrainId(7), TrainId(8)]) {
+        Ok(_) => 0,
+        Err(fault) => fault.column,
+    }
+}
+
+/// Whether a text is an event, which is written as that text.
+fn is_written_back(alloc: Global, text: &[u8], line: &Line) -> Result<bool, AllocError> {
+    let mut sink = VecSink::new(alloc, 100, &[])?;
+    let Ok(event) = read_event(text, line, &[TrainId(7), TrainId(8)]) else {
+        return Ok(false);
+    };
+    let written = write_event(&event, &mut sink).is_ok();
+    Ok(written && sink.bytes() == text)
+}
+
+/// Tries a row of a column and a text.
+fn try_refused(rt: &impl Abort, row: &str, line: &Line) {
+    let holds = match row.split_once(' ') {
+        Some((told, text)) => told.parse::<u32>().ok() == Some(column(text.as_bytes(), line)),
+        None => false,
+    };
+    assert!(rt; holds, "{row}");
+}
+
+#[test]
+fn events_are_read_and_written_back(rt: HostRuntime) -> Result<(), AllocError> {
+    let Ok(line) = line_of(rt.alloc()) else {
+        panic!(rt; "no line");
+    };
+    for text in EVENTS.split('\n') {
+        let holds = is_written_back(rt.alloc(), text.as_bytes(), &line)?;
+        assert!(rt; holds, "{text}");
+    }
+    Ok(())
+}
+
+#[test]
+fn others_are_refused_at_their_columns(rt: HostRuntime) {
+    let Ok(line) = line_of(rt.alloc()) else {
+        panic!(rt; "no line");
+    };
+    for row in REFUSED.split('\n') {
+        try_refused(&rt, row, &line);
+    }
+}
+
+/// The trains 7 and 8.
+struct SevenAndEight;
+
+impl DeclaredTrains for SevenAndEight {
+    ghost known = { λ t. 7 ∷ 8 ∷ [] };
+
+    #[tactic(auto, unfolding(definitions::specs::EventFields::has_train))]
+    fn has(&self, train: TrainId) -> bool {
+        train.0 == 7 || train.0 == 8
+    }
+}
+
+/// Whether a text line says this.
+fn says(told: &str, says: &EventLine) -> bool {
+    match says {
+        EventLine::Passed => told == "passed",
+        EventLine::Unbuilt => told == "unbuilt",
+        EventLine::Event(_) => told == "event",
+        EventLine::Fault(column) => told.parse::<u32>().ok() == Some(*column),
+    }
+}
+
+#[test]
+fn text_lines_say_what_they_are(rt: HostRuntime) {
+    let Ok(line) = line_of(rt.alloc()) else {
+        panic!(rt; "no line");
+    };
+    let mut values: Values = ArrayVec::new();
+    let mut here = EventLine::Passed;
+    for row in LINES.split('\n') {
+        let holds = match row.split_once(' ') {
+            Some((told, text)) => {
+                event_line(
+                    text.as_bytes(),
+                    &line,
+                    &SevenAndEight,
+                    &mut values,
+                    &mut here,
+                );
+                says(told, &here)
+            }
+            None => false,
+        };
+        assert!(rt; holds, "{row}");
+    }
+}
+
+/// A step of 5 ms with so many moves, all of one train.
+fn step_of(moves: usize) -> ArrayVec<u8, 4100> {
+    let mut text = ArrayVec::new();
+    let _ = text.try_extend_from_slice(b"step 5");
+    for _ in 0..moves {
+        let _ = text.try_extend_from_slice(b" 7 1");
+    }
+    text
+}
+
+#[test]
+fn long_steps_are_refused(rt: HostRuntime) {
+    let Ok(line) = line_of(rt.alloc()) else {
+        panic!(rt; "no line");
+    };
+    let repeated = step_of(300);
+    assert!(rt; column(repeated.as_slice(), &line) == 12);
+    let mut long = step_of(1023);
+    let _ = long.try_extend_from_slice(b" 7");
+    assert!(rt; column(long.as_slice(), &line) == 4097);
+}
