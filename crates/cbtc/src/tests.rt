@@ -385,39 +385,37 @@ fn run_gives(alloc: Global, input: &[u8], status: Status, text: &str) -> Result<
     Ok(given == status && written.as_slice() == text.as_bytes())
 }
 
-/// Whether a comment of so many bytes gives a status and a text.
-fn comment_gives(
-    alloc: Global,
-    size: usize,
-    status: Status,
-    text: &str,
-) -> Result<bool, AllocError> {
-    let input = vec![in alloc; b'#'; size]?;
-    run_gives(alloc, input.as_slice(), status, text)
-}
-
-/// An item of 4,097 bytes is refused before its end.
-#[test]
-fn a_long_item(rt: HostRuntime) -> Result<(), AllocError> {
-    let mut text = [b' '; 4097];
-    text[..6].copy_from_slice(b"zone 1");
-    let refused = run_gives(rt.alloc(), &text, Status::Line, "line 1 column 7\n")?;
-    check(&rt, "a long item", refused);
-    Ok(())
-}
-
-/// A comment may fill the input up to its limit, and no byte more.
-#[test]
-fn at_the_limit(rt: HostRuntime) -> Result<(), AllocError> {
-    let just = comment_gives(rt.alloc(), 67_108_864, Status::Line, "line 2 rule 1\n")?;
-    check(&rt, "just within the limit", just);
-    let past = comment_gives(
-        rt.alloc(),
+/// A text of so many bytes, which begins so and goes on with one byte, and the status and the text that it gives. A comment may
+/// fill the input up to its limit, and no byte more; an item of 4,097 bytes is refused before its end.
+const FILLED: [(&[u8], u8, usize, Status, &str); 3] = [
+    (b"#", b'#', 67_108_864, Status::Line, "line 2 rule 1\n"),
+    (
+        b"#",
+        b'#',
         67_108_865,
         Status::Limit,
         "limit input 67108864\n",
-    )?;
-    check(&rt, "a byte past the limit", past);
+    ),
+    (b"zone 1", b' ', 4_097, Status::Line, "line 1 column 7\n"),
+];
+
+/// A text of so many bytes, which begins so and goes on with one byte.
+fn filled(alloc: Global, front: &[u8], byte: u8, size: usize) -> Result<Vec<u8>, AllocError> {
+    let mut text = Vec::with_capacity(alloc, size)?;
+    text.extend_from_slice(front)?;
+    for _ in front.len()..size {
+        text.push(byte)?;
+    }
+    Ok(text)
+}
+
+#[test]
+fn at_the_limits_of_texts(rt: HostRuntime) -> Result<(), AllocError> {
+    for (front, byte, size, status, told) in FILLED {
+        let input = filled(rt.alloc(), front, byte, size)?;
+        let holds = run_gives(rt.alloc(), input.as_slice(), status, told)?;
+        check(&rt, told, holds);
+    }
     Ok(())
 }
 
@@ -436,149 +434,130 @@ fn numbered(
     Ok(())
 }
 
-/// A line may have 512 segments, and no more: text line 1 is the zone, text line 514 the segment too many.
-#[test]
-fn too_many_segments(rt: HostRuntime) -> Result<(), AllocError> {
-    let mut input = Vec::new(rt.alloc());
-    add_document(&mut input, "zone 1\n")?;
-    numbered(rt.alloc(), &mut input, "segment", 514, "1 1000")?;
-    let refused = run_gives(
-        rt.alloc(),
-        input.as_slice(),
-        Status::Line,
-        "line 514 rule 5\n",
-    )?;
-    check(&rt, "a segment too many", refused);
-    Ok(())
-}
-
-/// Whether so many trains, and what comes after them, give a status and a text under a command.
-fn trains_give(
-    alloc: Global,
-    trains: u32,
-    more: &str,
-    status: Status,
-    text: &str,
-) -> Result<bool, AllocError> {
-    let mut input = Vec::new(alloc);
-    add_document(&mut input, "+ four segments\nscript\n")?;
-    numbered(
-        alloc,
-        &mut input,
-        "train",
-        trains.saturating_add(1),
-        "1000 10 100 eq",
-    )?;
-    input.extend_from_slice(more.as_bytes())?;
-    run_gives(alloc, input.as_slice(), status, text)
-}
-
-/// 256 trains may be declared, and no more. The first of them is text line 12, the 257th would be text line 268; a field that
-/// is refused comes first, as that of a train that is declared already or of an error as great as the length.
-#[test]
-fn too_many_trains(rt: HostRuntime) -> Result<(), AllocError> {
-    let again = "train 256 1000 10 100 eq\n";
-    let just = trains_give(rt.alloc(), 256, "", Status::Done, "done 256\n")?;
-    check(&rt, "256 trains", just);
-    let twice = trains_give(
-        rt.alloc(),
-        256,
-        again,
-        Status::Script,
-        "script 268 column 7\n",
-    )?;
-    check(&rt, "a train again", twice);
-    let wrong = trains_give(
-        rt.alloc(),
-        256,
-        "train 257 1000 1000 100 eq\n",
-        Status::Script,
-        "script 268 column 16\n",
-    )?;
-    check(&rt, "a train of another error", wrong);
-    let more = trains_give(rt.alloc(), 257, "", Status::Limit, "limit trains 256\n")?;
-    check(&rt, "257 trains", more);
-    Ok(())
-}
-
-/// A command of four segments and of a script that begins so, has then so many steps of a millisecond, and then this text line;
-/// the status, and the end of the text.
+/// A command of a document that begins so, has then so many lines of a word, a number from 1 on and a rest, so many steps of a
+/// millisecond, and then this text line; the status, and the text, in a check its end.
 #[derive(Clone, Copy)]
 struct Long<'a> {
     words: &'a [&'a str],
     begin: &'a str,
+    numbered: (&'a str, u32, &'a str),
     steps: u32,
     last: &'a str,
     status: Status,
     text: &'a str,
 }
 
-/// Whether it ends so, with that text at its end.
-fn long_gives(alloc: Global, long: &Long<'_>) -> Result<bool, AllocError> {
-    let mut input = Vec::new(alloc);
-    add_document(&mut input, "+ four segments\nscript\n")?;
-    add_document(&mut input, long.begin)?;
-    add_lines(&mut input, b"step 1\n", long.steps)?;
-    input.extend_from_slice(long.last.as_bytes())?;
-    let (status, text) = given(alloc, long.words, input.as_slice(), &[], &[], 2_000_000)?;
-    Ok(status == long.status && text.as_slice().ends_with(long.text.as_bytes()))
-}
+/// A run of a script of nothing.
+const SCRIPT: Long<'static> = Long {
+    words: RUN,
+    begin: "+ four segments\nscript\n",
+    numbered: ("", 0, ""),
+    steps: 0,
+    last: "",
+    status: Status::Done,
+    text: "",
+};
 
-/// A check has 200,000 events at most, and so has the history of a run, in which a delivery is its takes: of two that are due
-/// the first alone may have room.
+/// A line may have 512 segments, and no more: text line 1 is the zone, text line 514 the segment too many. 256 trains may be
+/// declared, and no more: the first of them is text line 12, the 257th would be text line 268; a field that is refused comes
+/// first, as that of a train that is declared already or of an error as great as the length. A check has 200,000 events at most,
+/// and so has the history of a run, in which a delivery is its takes: of two that are due the first alone may have room.
 const LONG: &[Long<'static>] = &[
     Long {
-        words: RUN,
-        begin: "",
+        begin: "zone 1\n",
+        numbered: ("segment", 513, "1 1000"),
+        status: Status::Line,
+        text: "line 514 rule 5\n",
+        ..SCRIPT
+    },
+    Long {
+        numbered: ("train", 256, "1000 10 100 eq"),
+        text: "done 256\n",
+        ..SCRIPT
+    },
+    Long {
+        numbered: ("train", 256, "1000 10 100 eq"),
+        last: "train 256 1000 10 100 eq",
+        status: Status::Script,
+        text: "script 268 column 7\n",
+        ..SCRIPT
+    },
+    Long {
+        numbered: ("train", 256, "1000 10 100 eq"),
+        last: "train 257 1000 1000 100 eq",
+        status: Status::Script,
+        text: "script 268 column 16\n",
+        ..SCRIPT
+    },
+    Long {
+        numbered: ("train", 257, "1000 10 100 eq"),
+        status: Status::Limit,
+        text: "limit trains 256\n",
+        ..SCRIPT
+    },
+    Long {
         steps: 200_000,
         last: "take 1 0 1",
         status: Status::Limit,
         text: "limit events 200000\n",
+        ..SCRIPT
     },
     Long {
-        words: RUN,
-        begin: "",
         steps: 200_000,
         last: "step 0",
         status: Status::Script,
         text: "script 200012 column 6\n",
+        ..SCRIPT
     },
     Long {
-        words: RUN,
-        begin: "",
         steps: 200_000,
         last: "deliver 1",
-        status: Status::Done,
         text: "done 200001\n",
+        ..SCRIPT
     },
     Long {
-        words: RUN,
-        begin: "train 7 60000 2000 20000 eq\nentry 7 1+\nentry 7 1+\n",
+        begin: "+ four segments\nscript\ntrain 7 60000 2000 20000 eq\nentry 7 1+\nentry 7 1+\n",
         steps: 199_996,
         last: "deliver 1",
         status: Status::Limit,
         text: "entry 1 7 1\nlimit events 200000\n",
+        ..SCRIPT
     },
     Long {
         words: CHECK,
-        begin: "",
         steps: 200_000,
-        last: "",
-        status: Status::Done,
         text: "step 1\ndone 200000\n",
+        ..SCRIPT
     },
     Long {
         words: CHECK,
-        begin: "",
         steps: 200_000,
         last: "deliver 1",
         status: Status::Limit,
         text: "step 1\nlimit events 200000\n",
+        ..SCRIPT
     },
 ];
 
+/// Whether it ends so.
+fn long_gives(alloc: Global, long: &Long<'_>) -> Result<bool, AllocError> {
+    let mut input = Vec::new(alloc);
+    let (word, count, rest) = long.numbered;
+    add_document(&mut input, long.begin)?;
+    numbered(alloc, &mut input, word, count.saturating_add(1), rest)?;
+    add_lines(&mut input, b"step 1\n", long.steps)?;
+    input.extend_from_slice(long.last.as_bytes())?;
+    let (status, text) = given(alloc, long.words, input.as_slice(), &[], &[], 2_000_000)?;
+    let told = long.text.as_bytes();
+    let same = match long.words {
+        ["check"] => text.as_slice().ends_with(told),
+        _ => text.as_slice() == told,
+    };
+    Ok(status == long.status && same)
+}
+
 #[test]
-fn too_many_events(rt: HostRuntime) -> Result<(), AllocError> {
+fn long_documents(rt: HostRuntime) -> Result<(), AllocError> {
     for long in LONG {
         check(&rt, long.text, long_gives(rt.alloc(), long)?);
     }
