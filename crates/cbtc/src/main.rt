@@ -1,10 +1,6 @@
 //! The program: what each command writes to standard output, and the status that it ends with.
 #![tactic(auto)]
 
-#[cfg(test)]
-mod tests;
-mod top;
-
 use edge_io::standard::{StdSink, StdSource};
 use edge_io::status::Status;
 use edge_io::stream::NoGate;
@@ -12,7 +8,7 @@ use std::alloc::{AllocError, Global};
 use std::process::ExitCode;
 use std::rt::Env;
 use std::{env, io};
-use top::cbtc_top;
+use top_call::top::cbtc_top;
 
 /// The words after the program's name. Words that cannot be read are none.
 fn words_of(rt: &(impl Env + Alloc<A = Global>)) -> Result<Vec<String>, AllocError> {

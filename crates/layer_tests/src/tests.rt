@@ -9,7 +9,6 @@ mod ledger;
 mod line;
 mod outcomes;
 mod room;
-mod rows;
 mod sets;
 mod stops;
 mod streams;

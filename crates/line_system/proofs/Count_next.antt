@@ -15,8 +15,8 @@ use Rattle.definitions.specs.Steps.{effects, loses, is_lost}
 use Rattle.definitions.specs.Safe.{IsLineOfOneZone}
 use Rattle.definitions.specs.Zones.{zone_id}
 use Rattle.refinement_laws.proofs.Deliveries_zone.{lost_next}
-use Rattle.line_system.specs.Losses.{lost_at, marked}
-use Rattle.line_system.specs.State.{Tally, taken_with, lost_with, tally_behind}
+use Rattle.line_state.specs.Losses.{lost_at, marked}
+use Rattle.line_state.specs.State.{Tally, taken_with, lost_with, tally_behind}
 use Rattle.line_system.specs.Kept.{KeepsLost}
 use Rattle.line_system.proofs.Taken_next.{actor_is}
 

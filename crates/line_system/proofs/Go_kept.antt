@@ -23,10 +23,10 @@ use Rattle.invariant_laws.proofs.Invariant.{Invariant}
 use Rattle.step_laws.proofs.Invariant_story.{invariant_story}
 use Rattle.refinement_laws.proofs.Refines_next.{built_is, too_many_is, premise_is, effect_is, refines_next, issued_fit}
 use Rattle.line_system.specs.History.{History}
-use Rattle.line_system.specs.State.{Tally, Parts, links_of, plain_of, parts_next, tally_behind, counted, lost_to, TakenInRange, EventInRange, due_of}
-use Rattle.line_system.specs.Frames.{AllFit}
+use Rattle.line_state.specs.State.{Tally, Parts, links_of, plain_of, parts_next, tally_behind, counted, lost_to, TakenInRange, EventInRange, due_of}
+use Rattle.line_state.specs.Frames.{AllFit}
 use Rattle.line_system.specs.Kept.{KeepsLost, IsKept}
-use Rattle.line_system.proofs.Read_there.{all_fit}
+use Rattle.line_state.proofs.Read_there.{all_fit}
 use Rattle.line_system.proofs.Zone_elsewhere.{world_elsewhere, zone_elsewhere, other_elsewhere, none_due}
 use Rattle.line_system.proofs.Count_next.{both_next, count_next}
 use Rattle.event_laws.proofs.Messages_most.{messages_most}

@@ -1,5 +1,3 @@
-pub mod Read_there
-pub mod All_posted
 pub mod Parts_refined
 pub mod Starts
 pub mod Sent_few
@@ -10,7 +8,5 @@ pub mod Zone_elsewhere
 pub mod Count_next
 pub mod In_range
 pub mod Go_kept
-pub mod Zone_next
 pub mod Shows_zone
 pub mod Next_waits
-pub mod Parts_moved

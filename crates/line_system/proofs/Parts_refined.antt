@@ -18,7 +18,7 @@ use Rattle.plain_state.specs.Plain.{Plain, is_link, by_world, by_zone, taken_nex
 use Rattle.plain_state.specs.Refinement.{ZoneRefines, Refines}
 use Rattle.refinement_laws.proofs.The_zone.{zone_positive, link_to_zone, link_to_world, the_zone, each_zone}
 use Rattle.invariant_laws.proofs.Zone_only.{actor_zone}
-use Rattle.line_system.specs.State.{Parts, links_of, plain_of, world_moved, zone_moved, parts_taken, parts_next}
+use Rattle.line_state.specs.State.{Parts, links_of, plain_of, world_moved, zone_moved, parts_taken, parts_next}
 
 -- its number
 pub own_id : (line : Line) (s : Story) (k : Parts) → IsLineOfOneZone line → Refines line s (plain_of k) → k.zone.id ≡ zone_id line

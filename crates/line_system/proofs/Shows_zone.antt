@@ -18,7 +18,7 @@ use Rattle.refinement_laws.proofs.Facts_is.{way_is_known}
 use Rattle.refinement_laws.proofs.Holds_are.{found_controls}
 use Rattle.refinement_laws.proofs.Envelope_now.{envelope_now}
 use Rattle.refinement_laws.proofs.The_zone.{the_zone}
-use Rattle.line_system.specs.State.{Tally, Parts, plain_of}
+use Rattle.line_state.specs.State.{Tally, Parts, plain_of}
 use Rattle.line_system.specs.Kept.{IsKept}
 use Rattle.line_system.specs.Shows.{ShowsEnvelope, ShowsNotions, ShowsWorld}
 

@@ -15,8 +15,8 @@ use Rattle.definitions.specs.Zones.{zone_id}
 use Rattle.plain_state.specs.Plain.{world_start, zone_start, plain_start}
 use Rattle.zone_state.specs.Zone.{ZoneKept, IsZoneOn}
 use Rattle.world_sim.specs.World.{AllOn}
-use Rattle.line_system.specs.Losses.{lost_at}
-use Rattle.line_system.specs.State.{Tally, Parts, IsStart}
+use Rattle.line_state.specs.Losses.{lost_at}
+use Rattle.line_state.specs.State.{Tally, Parts, IsStart}
 use Rattle.line_map.specs.Order.{count_below, IsZoneAt}
 use Rattle.line_map.proofs.Segment_ok.{zone_ok}
 use Rattle.invariant_laws.proofs.Zone_only.{zone_only}

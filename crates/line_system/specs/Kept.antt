@@ -10,8 +10,8 @@ use Rattle.definitions.specs.Zones.{zone_id}
 use Rattle.plain_state.specs.Refinement.{Refines}
 use Rattle.zone_state.specs.Zone.{ZoneKept, IsZoneOn}
 use Rattle.world_sim.specs.World.{IsWorldOn}
-use Rattle.line_system.specs.Losses.{lost_at}
-use Rattle.line_system.specs.State.{Tally, Parts, plain_of}
+use Rattle.line_state.specs.Losses.{lost_at}
+use Rattle.line_state.specs.State.{Tally, Parts, plain_of}
 
 -- of a link: which of the ordinals that it can have are named lost
 pub record KeepsLost (lost : List Bool) (from to : ℕ) (s : Story) : Type 0 where

@@ -4,9 +4,6 @@
 //! lines. What a system holds besides its history is what the history leaves, so that no answer reads the history again.
 #![tactic(auto)]
 
-mod link;
-mod losses;
-mod state;
 pub mod system;
 
 pub use system::{Answer, System};

@@ -13,16 +13,16 @@ ghost use Rattle.plain_state.specs.Plain.{is_link, takes_but};
 ghost use Rattle.world_sim.specs.World.{Admits};
 ghost use Rattle.std.specs.Option.{option_copied};
 ghost use Rattle.line_system.specs.History.{History};
-ghost use Rattle.line_system.specs.Frames.{IsFrameAt};
-ghost use Rattle.line_system.specs.State.{parts, tally, HasRoom};
+ghost use Rattle.line_state.specs.Frames.{IsFrameAt};
+ghost use Rattle.line_state.specs.State.{parts, tally, HasRoom};
 ghost use Rattle.line_system.specs.System.{Answered, Answers};
 ghost use Rattle.line_system.specs.Shows.{ShowsNotions, ShowsWorld};
 
-use crate::state::{State, is_actor};
 use definitions::event::Event;
 use definitions::outcome::Outcome;
 use definitions::trains::DeclaredTrains;
 use line_map::Line;
+use line_state::state::{State, is_actor};
 use msg_codec::Outs;
 use std::alloc::{AllocError, Global};
 use std::marker::Model;
@@ -53,7 +53,7 @@ pub struct System {
 impl Model for System {
     ghost use Rattle.std.specs.Prelude.{◌≡◌, reverse};
     ghost use Rattle.line_system.specs.History.{History};
-    ghost use Rattle.line_system.specs.State.{parts, tally};
+    ghost use Rattle.line_state.specs.State.{parts, tally};
     ghost use Rattle.line_system.specs.Kept.{IsKept};
 
     ghost Value = { History };
@@ -119,14 +119,18 @@ impl System {
         requires one { count_by is_any_zone line ≤ 1 }
         ensures { IfOk result (λ s. s ≡ record { line = line; events = [] }) }
     {
+        let events = Vec::with_capacity(alloc, 64)?;
         let zone = zone_of_line(&line);
         let state = State::new(alloc, &line, zone)?;
         Ok(System {
             line,
-            events: Vec::with_capacity(alloc, 64)?,
+            events,
             state,
         })
     }
+
+    /// Lets the system go. What drops one inline is proved slowly, since it drops each list in it.
+    pub fn release(self) {}
 
     /// Its line.
     pub fn line(&self) -> &Line

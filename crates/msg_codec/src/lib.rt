@@ -5,13 +5,12 @@
 #![tactic(auto)]
 
 pub mod outs;
-pub mod reading;
 pub mod writing;
 
 pub use definitions::event::Event;
 pub use definitions::frame::Unread;
 pub use definitions::message::{Hand, Msg, Order, SeenWhat};
 pub use definitions::outcome::{FrameFault, Outcome};
+pub use frame_reading::{decode, reading};
 pub use outs::Outs;
-pub use reading::decode;
 pub use writing::encode;

@@ -2,9 +2,6 @@
 use Rattle.std.proofs.Common.{◌≡◌, ℕ, ◌+◌, List, [], Option, Some, None, Bool, true, false, refl, sym, ◌∙◌, ap}
 use Rattle.std.specs.Prelude.{nat_eq, nat_le}
 use Rattle.list_laws.proofs.By_test.{by_test}
-use Rattle.edge_io.specs.declared.status.Status.TheVariants as status
-use Rattle.edge_io.specs.declared.stream.Got.TheVariants.{End}
-use Rattle.edge_io.specs.Streams.{Gives}
 use Rattle.definitions.specs.declared.item.Item.{Item}
 use Rattle.definitions.specs.declared.event.Event.{Event}
 use Rattle.definitions.specs.declared.document.ItemLine.{ItemLine}
@@ -22,13 +19,9 @@ use Rattle.definitions.specs.Track.{Line}
 use Rattle.definitions.specs.Story.{Story}
 use Rattle.definitions.specs.Steps.{story_of}
 use Rattle.definitions.specs.Premises.{beyond_trains}
-use Rattle.definitions.specs.Endings.{status_of}
 use Rattle.definitions.specs.Trace.{Stage, Items, Script, Checked, Over, is_over, among_items, in_script, in_check, stage_read, stage_ends, second_zone, item_read, begun, plan_read, came, ended_by, event_comes, event_checked, event_limit, Given}
 use Rattle.document_laws.proofs.Has_room.{EndsAs, event_ends}
-use Rattle.byte_feed.specs.Feed.{Feed, fed_gives}
-use Rattle.byte_feed.proofs.Trace_fed.{fed_over}
 use Rattle.run_engine.specs.Shown.{done_early}
-use Rattle.run_engine.specs.Running.{AtEnd}
 
 abbrev NotDone : Ending → Type 0
 NotDone ending = done_early (Over ending) ≡ false
@@ -85,23 +78,3 @@ never_done c n (Items items) text h = items_never c n items text (item_line_of t
 never_done c n (Script line events count) text h = script_never n line events count (event_line_of line (trains (story_of line events)) text)
 never_done c n (Checked line known count) text h = check_never n line known count text (event_line_of line known text)
 never_done c n (Over ending) text h = h
-
-over_ends : (n : ℕ) (s : Stage) → is_over s ≡ true → done_early s ≡ false → status_of (stage_ends n s) ≡ status.Done → ⊥
-unfolding stage_ends
-over_ends n (Items items) h k e = cc
-over_ends n (Script line events count) h k e = cc
-over_ends n (Checked line known count) h k e = cc
-over_ends n (Over (ends.Done m)) h k e = cc
-over_ends n (Over _) h k e = cc
-
--- what ends as done is not over
-pub done_only : (f : Feed) (e : Ending) → done_early f.reading.stage ≡ false → e ≡ (fed_gives f []).ending → status_of e ≡ status.Done → is_over f.reading.stage ≡ false
-done_only f e k same h = by_test (is_over f.reading.stage)
-    (λ over. absurd (over_ends f.reading.number f.reading.stage over k (sym (ap status_of (same ∙ ap (λ (g : Given). g.ending) (fed_over f [] over))) ∙ h)))
-    (λ on. on)
-
-pub at_end : (old new : Option (List ℕ)) (buf : List ℕ) → Gives End old buf new → AtEnd new
-at_end None None buf g = tt
-at_end None (Some new) buf g = cc
-at_end (Some old) None buf g = tt
-at_end (Some old) (Some new) buf g = g.1

@@ -5,5 +5,3 @@ pub mod Feeding
 pub mod Does
 pub mod Sends
 pub mod Ahead
-pub mod Running
-pub mod Complete

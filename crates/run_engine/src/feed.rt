@@ -165,6 +165,11 @@ impl Feed {
         })
     }
 
+    /// Lets the feed go.
+    pub fn release(self) {
+        self.teller.reading.stage.release();
+    }
+
     /// Whether a text line has given an answer.
     pub fn is_over(&self) -> bool
         ensures { result ≡ Rattle.definitions.specs.Trace.is_over (feed_shown self.now).reading.stage }

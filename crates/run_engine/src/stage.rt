@@ -39,6 +39,16 @@ pub enum Stage {
     Over(Ending),
 }
 
+impl Stage {
+    /// Lets the stage go.
+    pub fn release(self) {
+        match self {
+            Stage::Script(system, _) => system.release(),
+            Stage::Items(_) | Stage::Checked(_) | Stage::Over(_) => {}
+        }
+    }
+}
+
 /// Room for what a text line says, for what a step gives, and for the outcome lines of the text line.
 #[derive(Drop)]
 pub struct Room {
@@ -114,7 +124,7 @@ fn begin(alloc: Global, command: Command, line: Line) -> Result<Stage, AllocErro
 fn put(stage: &mut Stage, next: Stage)
     ensures { stage.new ≡ next }
 {
-    *stage = next;
+    mem::replace(stage, next).release();
 }
 
 /// Begins the script of a line of these items, at text line n.
@@ -327,17 +337,15 @@ fn items_end(n: u64, builder: LineBuilder) -> Ending
     }
 }
 
-/// How a document ends whose last text line is line n.
-#[tactic(auto, unfolding(definitions::specs::Trace::stage_ends))]
-fn ending(n: u64, stage: Stage) -> Ending
-    requires { n + 1 < 2 ^ 64 }
-    ensures { result ≡ stage_ends n (stage_shown stage) }
+/// How a document ends among its items, whose last text line is line n. The stage is spent.
+fn end_of_items(n: u64, stage: &mut Stage) -> Ending
+    requires small { n + 1 < 2 ^ 64 }
+    requires items { IsItems (stage_shown stage.old) }
+    ensures { result ≡ stage_ends n (stage_shown stage.old) }
 {
-    match stage {
-        Stage::Over(ending) => ending,
+    match mem::replace(stage, Stage::Over(Ending::Input)) {
         Stage::Items(builder) => items_end(n, builder),
-        Stage::Script(_, count) => Ending::Done(count),
-        Stage::Checked(check) => Ending::Done(check.count),
+        Stage::Script(_, _) | Stage::Checked(_) | Stage::Over(_) => unreachable!(),
     }
 }
 
@@ -433,12 +441,17 @@ impl Reading {
         Ok(reads)
     }
 
-    /// How the document ends. The stage is spent.
+    /// How the document ends. The stage may be spent.
+    #[tactic(auto, unfolding(definitions::specs::Trace::stage_ends))]
     pub fn end(&mut self) -> Ending
         requires { self.old.number + 1 < 2 ^ 64 }
         ensures { result ≡ stage_ends self.old.number (stage_shown self.old.stage) }
     {
-        let stage = mem::replace(&mut self.stage, Stage::Over(Ending::Input));
-        ending(self.number, stage)
+        match &self.stage {
+            Stage::Over(ending) => *ending,
+            Stage::Items(_) => end_of_items(self.number, &mut self.stage),
+            Stage::Script(_, count) => Ending::Done(*count),
+            Stage::Checked(check) => Ending::Done(check.count),
+        }
     }
 }

@@ -2,14 +2,15 @@
 ghost use Rattle.std.specs.Prelude.{◌≡◌, ◌≤◌, ◌∷◌, [], true, false, count_by, IfOk};
 ghost use Rattle.definitions.specs.Rules.{is_any_zone, is_line};
 ghost use Rattle.definitions.specs.Story.{Story};
-ghost use Rattle.definitions.specs.Track.{Line};
+ghost use Rattle.definitions.specs.Track as track;
 ghost use Rattle.definitions.specs.Trace.{stands_for};
 
 use definitions::event::{Event, Kind};
-use line_map::{End, Item, LineBuilder, LineFault};
+use definitions::outcome::Outcome;
+use line_map::{End, Item, Line, LineBuilder, LineFault};
 use line_system::{Answer, Premise, System};
 use msg_codec::Outs;
-use std::alloc::Global;
+use std::alloc::{AllocError, Global};
 use std::process::Abort;
 use track_points::{Dir, DirSeg, SegId, TrainId, ZoneId};
 
@@ -27,27 +28,43 @@ fn end(segment: u64, dir: Dir) -> End {
     End { segment, dir }
 }
 
-/// Two segments of zone 1, of 100,000 and 300,000 mm, with a portal at each end.
-fn line_of(alloc: Global) -> Result<line_map::Line, LineFault>
+/// Adds two segments of zone 1, of 100,000 and 300,000 mm, with a portal at each end, where there is memory.
+fn fill(builder: &mut LineBuilder) -> Result<(), LineFault>
+    requires { builder.old ≡ [] }
+    ensures { count_by is_any_zone builder.new ≤ 1 }
+{
+    builder.add(&Item::Zone(1))?;
+    add(builder, &Item::Segment(1, 1, 100_000))?;
+    add(builder, &Item::Segment(2, 1, 300_000))?;
+    add(builder, &Item::Portal(end(1, Dir::Down)))?;
+    add(builder, &Item::Joint(end(1, Dir::Up), end(2, Dir::Down)))?;
+    add(builder, &Item::Portal(end(2, Dir::Up)))
+}
+
+/// The line of these segments.
+fn line_of(alloc: Global) -> Result<Line, LineFault>
     ensures valid { IfOk result (λ line. is_line line ≡ true) }
     ensures one { IfOk result (λ line. count_by is_any_zone line ≤ 1) }
 {
     let mut builder = LineBuilder::new(alloc).map_err(|_| LineFault::Memory)?;
-    builder.add(&Item::Zone(1))?;
-    add(&mut builder, &Item::Segment(1, 1, 100_000))?;
-    add(&mut builder, &Item::Segment(2, 1, 300_000))?;
-    add(&mut builder, &Item::Portal(end(1, Dir::Down)))?;
-    add(
-        &mut builder,
-        &Item::Joint(end(1, Dir::Up), end(2, Dir::Down)),
-    )?;
-    add(&mut builder, &Item::Portal(end(2, Dir::Up)))?;
+    fill(&mut builder)?;
     builder.finish()
+}
+
+/// The system of this line.
+fn system_of(rt: &impl Abort, alloc: Global) -> System {
+    let Ok(line) = line_of(alloc) else {
+        panic!(rt; "no line");
+    };
+    let Ok(system) = System::start(alloc, line) else {
+        panic!(rt; "want of memory");
+    };
+    system
 }
 
 /// Whether an event stands for others.
 fn is_delivery(event: &Event) -> bool
-    ensures { result ≡ false → (line : Line) → (s : Story) → stands_for line s event.now ≡ event.now ∷ [] }
+    ensures { result ≡ false → (line : track.Line) → (s : Story) → stands_for line s event.now ≡ event.now ∷ [] }
 {
     match event {
         Event::Deliver(_) => true,
@@ -55,8 +72,9 @@ fn is_delivery(event: &Event) -> bool
     }
 }
 
-/// Lets an event go by itself, and answers 0; else the number of the premise that it breaks, or 100 where it cannot go.
-fn go(rt: &impl Abort, system: &mut System, event: &Event, outs: &mut Outs) -> u8 {
+/// Lets an event go by itself, and answers 0; else the number of the premise that it breaks, 100 where it cannot go, or 101
+/// where memory is wanting.
+fn go(system: &mut System, event: &Event, outs: &mut Outs) -> u8 {
     if !system.is_built(event)
         || system.is_too_many(event)
         || !system.has_room()
@@ -67,10 +85,10 @@ fn go(rt: &impl Abort, system: &mut System, event: &Event, outs: &mut Outs) -> u
     if let Err(Premise(number)) = system.admits(event) {
         return number;
     }
-    let Ok(()) = system.step(event, outs) else {
-        panic!(rt; "want of memory");
-    };
-    0
+    match system.step(event, outs) {
+        Ok(()) => 0,
+        Err(_) => 101,
+    }
 }
 
 /// Whether this take waits for an actor.
@@ -93,6 +111,10 @@ fn is_frame(system: &System, from: u8, to: u8, number: u32, bytes: &[u8]) -> boo
     }
 }
 
+fn has_frame(system: &System, from: u8, to: u8, number: u32) -> bool {
+    system.frame(from, to, number).is_some()
+}
+
 const INWARD: DirSeg = DirSeg {
     seg: SegId(1),
     dir: Dir::Up,
@@ -110,69 +132,69 @@ const GRANT: &[u8] = &[
     1, 10, 0, 7, 0, 0, 0, 1, 0, 0, 0, 0, 1, 0, 1, 0, 0, 0, 0, 0, 0x01, 0x86, 0xA0,
 ];
 
-/// A train that is declared, the time and its request for entry go; before it is declared nothing of it does.
-fn goes_out(rt: &impl Abort, system: &mut System, outs: &mut Outs) {
+/// Whether a train that is declared, the time and its request for entry go, and before it is declared nothing of it.
+fn goes_out(system: &mut System, outs: &mut Outs) -> bool {
     let train = TrainId(7);
     let declared = Event::Train(train, 60_000, 2_000, 20_000, Kind::Equipped);
-    assert_eq!(rt; go(rt, system, &Event::Time(ZoneId(1), train), outs), 100);
-    assert_eq!(rt; go(rt, system, &declared, outs), 0);
-    assert!(rt; waits_for_nothing(system, 1));
-    assert_eq!(rt; go(rt, system, &Event::Time(ZoneId(1), train), outs), 0);
-    assert_eq!(rt; go(rt, system, &Event::Entry(train, INWARD), outs), 0);
+    let time = Event::Time(ZoneId(1), train);
+    go(system, &time, outs) == 100
+        && go(system, &declared, outs) == 0
+        && waits_for_nothing(system, 1)
+        && go(system, &time, outs) == 0
+        && go(system, &Event::Entry(train, INWARD), outs) == 0
 }
 
-/// What went out stands on its link, and nothing on any other.
-fn stands(rt: &impl Abort, system: &System) {
-    assert_eq!(rt; system.sent(0, 1), 2);
-    assert_eq!(rt; system.sent(1, 0), 0);
-    assert_eq!(rt; system.sent(0, 2), 0);
-    assert!(rt; is_frame(system, 0, 1, 1, TIME));
-    assert!(rt; is_frame(system, 0, 1, 2, REQUEST));
-    assert!(rt; system.frame(0, 1, 0).is_none());
-    assert!(rt; system.frame(0, 1, 3).is_none());
-    assert!(rt; system.frame(1, 0, 1).is_none());
-    assert!(rt; system.frame(2, 0, 1).is_none());
+/// Whether what went out stands on its link, and nothing on any other.
+fn stands(system: &System) -> bool {
+    system.sent(0, 1) == 2
+        && system.sent(1, 0) == 0
+        && system.sent(0, 2) == 0
+        && is_frame(system, 0, 1, 1, TIME)
+        && is_frame(system, 0, 1, 2, REQUEST)
+        && !has_frame(system, 0, 1, 0)
+        && !has_frame(system, 0, 1, 3)
+        && !has_frame(system, 1, 0, 1)
+        && !has_frame(system, 2, 0, 1)
 }
 
-/// A message that is named lost waits no more; premises are told by their numbers.
-fn is_lost(rt: &impl Abort, system: &mut System, outs: &mut Outs) {
-    assert!(rt; waits(system, 1, 0, 1));
-    assert_eq!(rt; go(rt, system, &Event::Lost(0, 1, 1), outs), 0);
-    assert!(rt; waits(system, 1, 0, 2));
-    assert!(rt; waits_for_nothing(system, 9));
-    assert_eq!(rt; go(rt, system, &Event::Take(1, 0, 3), outs), 6);
-    assert_eq!(rt; go(rt, system, &Event::Enter(TrainId(7)), outs), 5);
-    assert_eq!(rt; go(rt, system, &Event::Deliver(1), outs), 100);
+/// Whether a message that is named lost waits no more, and premises are told by their numbers.
+fn is_lost(system: &mut System, outs: &mut Outs) -> bool {
+    waits(system, 1, 0, 1)
+        && go(system, &Event::Lost(0, 1, 1), outs) == 0
+        && waits(system, 1, 0, 2)
+        && waits_for_nothing(system, 9)
+        && go(system, &Event::Take(1, 0, 3), outs) == 6
+        && go(system, &Event::Enter(TrainId(7)), outs) == 5
+        && go(system, &Event::Deliver(1), outs) == 100
 }
 
-/// A delivery takes what is not lost, and its answer waits.
-fn is_delivered(rt: &impl Abort, alloc: Global, system: &mut System, outs: &mut Outs) {
-    let mut lines = Vec::new(alloc);
-    let goes = match system.read(&Event::Deliver(1), outs, &mut lines) {
+/// Whether a delivery takes what is not lost, and its answer waits. Its outcome lines are added.
+fn is_delivered(system: &mut System, outs: &mut Outs, lines: &mut Vec<Outcome>) -> bool {
+    let goes = match system.read(&Event::Deliver(1), outs, lines) {
         Ok(Answer::Goes) => true,
         _ => false,
     };
-    assert!(rt; goes);
-    assert_eq!(rt; lines.len(), 1);
-    assert_eq!(rt; system.events().len(), 5);
-    assert!(rt; waits_for_nothing(system, 1));
-    assert!(rt; waits(system, 0, 1, 1));
-    assert!(rt; is_frame(system, 1, 0, 1, GRANT));
+    goes && lines.len() == 1
+        && system.events().len() == 5
+        && waits_for_nothing(system, 1)
+        && waits(system, 0, 1, 1)
+        && is_frame(system, 1, 0, 1, GRANT)
+}
+
+/// Tries the links of a system.
+fn try_links(rt: &(impl Abort + Alloc<A = Global>), system: &mut System) -> Result<(), AllocError> {
+    let mut outs = Outs::new(rt.alloc())?;
+    let mut lines = Vec::new(rt.alloc());
+    let went = goes_out(system, &mut outs) && stands(system);
+    let came = is_lost(system, &mut outs) && is_delivered(system, &mut outs, &mut lines);
+    assert!(rt; went && came);
+    Ok(())
 }
 
 #[test]
-fn links_tell_what_went_out_and_what_waits(rt: HostRuntime) {
-    let Ok(line) = line_of(rt.alloc()) else {
-        panic!(rt; "no line");
-    };
-    let Ok(mut outs) = Outs::new(rt.alloc()) else {
-        panic!(rt; "want of memory");
-    };
-    let Ok(mut system) = System::start(rt.alloc(), line) else {
-        panic!(rt; "want of memory");
-    };
-    goes_out(&rt, &mut system, &mut outs);
-    stands(&rt, &system);
-    is_lost(&rt, &mut system, &mut outs);
-    is_delivered(&rt, rt.alloc(), &mut system, &mut outs);
+fn links_tell_what_went_out_and_what_waits(rt: HostRuntime) -> Result<(), AllocError> {
+    let mut system = system_of(&rt, rt.alloc());
+    let tried = try_links(&rt, &mut system);
+    system.release();
+    tried
 }

@@ -1,8 +1,4 @@
-pub mod Pace_most
 pub mod Stays_kept
 pub mod Changed_is
-pub mod Stands_on
-pub mod Moves_on
-pub mod Unfit
 pub mod Event_stays
 pub mod Answers_is

@@ -1,9 +1,8 @@
-//! The world: its clock, its trains and how they move, what each of its steps gives, and which authorities it acts on.
+//! The world: its clock, its list of trains, what each of its steps gives, and which authorities it acts on.
 #![tactic(auto)]
 
-pub mod places;
-mod trains;
 pub mod world;
 
 pub use msg_codec::{Event, Outcome};
 pub use world::{Premise, World};
+pub use world_trains::places;

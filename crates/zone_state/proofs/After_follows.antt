@@ -1,9 +1,8 @@
 -- The trains after a message: none is there twice, and which of them fall silent.
-use Rattle.std.proofs.Common.{◌≡◌, ℕ, suc, ◌+◌, ◌≤◌, ◌<◌, max, Bool, true, false, not, ◌&&◌, List, [], ◌∷◌, ◌++◌, length, map, Option, Some, None, is_some, refl, sym, ap, ◌∙◌, arith, nat_eq, nat_lt}
+use Rattle.std.proofs.Common.{◌≡◌, ℕ, suc, ◌≤◌, ◌<◌, max, Bool, true, false, not, ◌&&◌, List, [], ◌∷◌, length, map, Option, Some, None, is_some, refl, sym, ap, ◌∙◌, arith, nat_eq, nat_lt}
 use Rattle.std.specs.Prelude.{⊤}
 use Rattle.std.specs.List.{list_all}
 use Rattle.std.proofs.lemmas.Bool.Decides.{nat_tests}
-use Rattle.std.proofs.lemmas.List.{append-nil}
 use Rattle.list_laws.proofs.By_test.{by_test, none_of}
 use Rattle.track_points.specs.declared.ids.TrainId.{TrainId}
 use Rattle.definitions.specs.declared.message.Msg.{Msg}
@@ -14,13 +13,12 @@ use Rattle.definitions.specs.declared.outcome.Outcome.{Outcome}
 use Rattle.definitions.specs.Track.{Line, seg_len, silent_after}
 use Rattle.definitions.specs.Fronts.{silent_by}
 use Rattle.definitions.specs.Control.{message_time}
-use Rattle.definitions.specs.Steps.{Effect}
 use Rattle.plain_state.specs.declared.Controlled.{Controlled}
 use Rattle.plain_state.specs.Zone.{find_controlled, change_controlled, placed_train, entered_or, train_at_entry, full, holder_plain, reach_plain, uses_mark, trains_acted_on, grown_train, plain_alarms, is_alarmed, report_or, alarm_of, lengthened, answer, reported_by, shortened, trains_ordered, fresh_train}
 use Rattle.plain_state.specs.Refinement.{Distinct}
 use Rattle.plain_state.proofs.Found_changed.{distinct_change, distinct_mapped, distinct_placed}
 use Rattle.zone_state.proofs.Shortened_same.{shortened_same}
-use Rattle.zone_state.specs.Zone.{falls_silent, alarms_of}
+use Rattle.zone_trains.specs.Trains.{falls_silent, alarms_of}
 
 no_some : (x : Controlled) → Some x ≡ None → ⊥
 no_some x h = cc
@@ -210,23 +208,3 @@ module _ (line : Line) (z before clock : ℕ) (old : List Controlled) (d : Disti
 pub fresh_grown : (clock : ℕ) (xs : List Controlled) → list_all fresh_train (map (grown_train clock) xs) ≡ list_all fresh_train xs
 fresh_grown clock [] = refl
 fresh_grown clock (x ∷ xs) = rw (fresh_grown clock xs) refl
-
--- The alarms of some trains, one by one.
-
--- the alarms of so many trains are told after what was told before
-pub record Told (ms z before clock : ℕ) (trains : List Controlled) (count : ℕ) (old new : Effect) : Type 0 where
-  pub all : new ≡ record { issued = old.issued; lines = old.lines ++ alarms_of ms z before clock trains }
-  pub few : length new.lines ≤ length old.lines + count
-
--- where Now has not risen no train falls silent
-alarms_still : (ms z before clock : ℕ) (xs : List Controlled) → clock ≤ before → alarms_of ms z before clock xs ≡ []
-alarms_still ms z before clock [] l = refl
-alarms_still ms z before clock (x ∷ xs) l =
-    let n : falls_silent ms before clock x ≡ false = grind (arith, nat_tests) in
-    rw n (alarms_still ms z before clock xs l)
-
-abbrev with_lines : Effect → List Outcome → Effect
-with_lines m os = record { issued = m.issued; lines = os }
-
-pub told_still : (ms z before clock : ℕ) (xs : List Controlled) (outs : Effect) → clock ≤ before → outs ≡ record { issued = outs.issued; lines = outs.lines ++ alarms_of ms z before clock xs }
-told_still ms z before clock xs outs l = ap (with_lines outs) (sym (append-nil outs.lines) ∙ ap (λ (os : List Outcome). outs.lines ++ os) (sym (alarms_still ms z before clock xs l)))

@@ -7,8 +7,9 @@ use Rattle.definitions.specs.Track.{Line, layout}
 use Rattle.plain_state.specs.Zone.{find_controlled, hold_has}
 use Rattle.plain_state.specs.declared.Controlled.{Controlled}
 use Rattle.plain_state.specs.Refinement.{Distinct}
-use Rattle.zone_state.specs.Zone.{is_train, ZoneKept, AllFit, HoldsAre, IsZoneOn, IsEnvelope}
-use Rattle.zone_state.proofs.Found_is.{found, found_is, absent}
+use Rattle.zone_trains.specs.Trains.{is_train, AllFit}
+use Rattle.zone_state.specs.Zone.{ZoneKept, HoldsAre, IsZoneOn, IsEnvelope}
+use Rattle.zone_trains.proofs.Found_is.{found, found_is, absent}
 use Rattle.zone_state.proofs.Holds_set.{hold_at}
 
 none_in : (p : Points) (point : Point) → p ≡ record { ranges = []; tokens = [] } → set_has p point ≡ false

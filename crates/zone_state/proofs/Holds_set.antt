@@ -7,7 +7,8 @@ use Rattle.track_points.specs.Sets.{Points}
 use Rattle.definitions.specs.Track.{Line, owner, layout}
 use Rattle.way_path.specs.Ways.{PlacedWay}
 use Rattle.plain_state.specs.declared.Controlled.{Controlled}
-use Rattle.zone_state.specs.Zone.{IsHold, HoldsAre}
+use Rattle.zone_trains.specs.Trains.{IsHold}
+use Rattle.zone_state.specs.Zone.{HoldsAre}
 
 pub hold_at : (line : Line) (z : ℕ) (xs : List Controlled) (ps : List Points) (i : ℕ) (d : Controlled) (e : Points) → i < length xs → HoldsAre line z xs ps → IsHold line z (get_or xs i d) (get_or ps i e)
 unfolding HoldsAre

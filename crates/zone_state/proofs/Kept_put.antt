@@ -11,7 +11,8 @@ use Rattle.track_points.specs.declared.ids.TrainId.{TrainId}
 use Rattle.track_points.specs.Sets.{Points}
 use Rattle.plain_state.specs.declared.Controlled.{Controlled}
 use Rattle.plain_state.specs.Zone.{grown_train, fresh_train}
-use Rattle.zone_state.specs.Zone.{Ascend, AreKept}
+use Rattle.zone_trains.specs.Trains.{Ascend}
+use Rattle.zone_state.specs.Zone.{AreKept}
 use Rattle.zone_state.proofs.After_follows.{length_mapped, fresh_grown}
 
 -- One train changed.

@@ -1,13 +1,8 @@
-pub mod Found_is
 pub mod Held_some
-pub mod Narrowed_stands
-pub mod Marked
-pub mod Cut_train
 pub mod After_follows
 pub mod Placed_is
 pub mod Stepped_follows
 pub mod Holds_set
 pub mod Kept_put
-pub mod Checked_fits
-pub mod Granted_is
 pub mod Shortened_same
+pub mod Passed_same

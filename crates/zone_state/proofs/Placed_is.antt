@@ -5,7 +5,7 @@ use Rattle.std.proofs.lemmas.Bool.Decides.{nat_tests}
 use Rattle.definitions.specs.Track.{Line}
 use Rattle.plain_state.specs.declared.Controlled.{Controlled}
 use Rattle.plain_state.specs.Zone.{placed_train}
-use Rattle.zone_state.specs.Zone.{TrainFits, AllFit}
+use Rattle.zone_trains.specs.Trains.{TrainFits, AllFit}
 
 -- after those of no greater id
 pub placed_is : (x : Controlled) (xs : List Controlled) (i : ℕ) → i ≤ length xs → ((k : ℕ) (d : Controlled) → k < i → (get_or xs k d).id.0 ≤ x.id.0)

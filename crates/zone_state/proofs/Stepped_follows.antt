@@ -17,7 +17,7 @@ use Rattle.way_path.specs.Ways.{plain_way}
 use Rattle.plain_state.specs.declared.Controlled.{Controlled}
 use Rattle.plain_state.specs.Refinement.{Distinct}
 use Rattle.plain_state.specs.Zone.{PlainZone, find_controlled, full, holder_plain, reach_plain, last_found, way_found, uses_mark, place_found, again_found, short_found, order_answer, zone_answer, zone_acts_on, zone_gives, zone_take_effect, trains_stepped, clock_after}
-use Rattle.zone_state.specs.Zone.{alarms_of}
+use Rattle.zone_trains.specs.Trains.{alarms_of}
 use Rattle.zone_state.proofs.After_follows.{Follows, grown_follows, after_follows}
 
 -- what a message gives has at most one line

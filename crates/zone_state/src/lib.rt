@@ -16,7 +16,6 @@
 mod clock;
 mod orders;
 mod report;
-mod shrinks;
 mod trains;
 pub mod zone;
 

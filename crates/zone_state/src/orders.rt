@@ -3,26 +3,16 @@ ghost use Rattle.std.specs.Prelude.{◌≡◌, true};
 ghost use Rattle.std.specs.List.{list_all};
 ghost use Rattle.definitions.specs.Track.{seg_len};
 ghost use Rattle.definitions.specs.Steps.{nothing};
-ghost use Rattle.plain_state.specs.Zone.{is_own, closed_ordered, trains_ordered, order_answer, find_controlled, change_controlled, short_found, shortened, fresh_train};
+ghost use Rattle.plain_state.specs.Zone.{closed_ordered, trains_ordered, order_answer, find_controlled, change_controlled, short_found, shortened, fresh_train};
 ghost use Rattle.zone_state.specs.Zone.{ZoneFits};
 
-use crate::shrinks::{not_shortened, take_short};
-use crate::zone::{Zone, fresh_train};
+use crate::zone::Zone;
 use definitions::outcome::ShortRefusal;
 use line_map::Line;
 use msg_codec::{Order, Outcome, Outs};
 use track_points::{DirSeg, TrainId, ZoneId};
-use way_path::on_steps::zone_of;
-
-/// Whether an order is on no segment of another zone.
-pub(crate) fn is_own(line: &Line, zone: u8, order: Order) -> bool
-    ensures { result ≡ is_own line.now zone order }
-{
-    match order {
-        Order::Close(seg) | Order::Open(seg) => zone_of(line, seg) == zone,
-        _ => true,
-    }
-}
+use zone_trains::shrinks::{not_shortened, take_short};
+use zone_trains::trains::fresh_train;
 
 impl Zone {
     /// A train's way is to end at an offset of a step.

@@ -1,5 +1,5 @@
 //! The zone, as the world's messages drive it.
-ghost use Rattle.std.specs.Prelude.{◌≡◌, ◌≤◌, ◌&&◌, nat_eq, true, IfOk};
+ghost use Rattle.std.specs.Prelude.{◌≡◌, ◌≤◌, ◌&&◌, true, IfOk};
 ghost use Rattle.std.specs.List.{list_all};
 ghost use Rattle.track_points.specs.Points.{Point};
 ghost use Rattle.track_points.specs.Sets.{set_has};
@@ -7,12 +7,10 @@ ghost use Rattle.definitions.specs.Track.{layout};
 ghost use Rattle.definitions.specs.Control.{message_time};
 ghost use Rattle.definitions.specs.Steps.{nothing};
 ghost use Rattle.plain_state.specs.Plain.{zone_start};
-ghost use Rattle.plain_state.specs.Zone.{find_controlled, hold_has, closed_at, zone_acts_on, zone_answer, zone_gives, trains_acted_on, closed_acted_on, concerns, fresh_number, fresh_mark, fresh_train, fresh_message, zone_take_effect, zone_take_next};
-ghost use Rattle.zone_state.specs.Zone.{ZoneFits, IsZoneOn, IsEnvelope, InRange, entry_declared};
+ghost use Rattle.plain_state.specs.Zone.{find_controlled, hold_has, closed_at, zone_acts_on, zone_answer, zone_gives, trains_acted_on, closed_acted_on, concerns, fresh_train, fresh_message, zone_take_effect, zone_take_next};
+ghost use Rattle.zone_trains.specs.Trains.{entry_declared};
+ghost use Rattle.zone_state.specs.Zone.{ZoneFits, IsZoneOn, IsEnvelope, InRange};
 
-use crate::orders::is_own;
-use crate::report::PositionReport;
-use crate::trains::Request;
 use line_map::Line;
 use msg_codec::{Msg, Outs};
 use plain_state::Controlled;
@@ -20,6 +18,9 @@ use std::alloc::{AllocError, Global};
 use std::marker::Model;
 use track_points::{PointSet, SegId, TrainId, ZoneId};
 use zone_reach::ClosedSegments;
+use zone_trains::messages::{concerns, fresh_message, message_time};
+use zone_trains::report::PositionReport;
+use zone_trains::trains::Request;
 
 /// How many trains a zone has room for.
 const ROOM: usize = 256;
@@ -46,69 +47,6 @@ impl Model for Zone {
     ghost view = { λ z. record { plain = record { id = z.id; clock = z.clock; trains = z.trains.items; closed = z.closed }; holds = z.holds.items } };
 
     ghost invariant = { λ z. (256 ≤ vec_capacity z.trains) × ((256 ≤ vec_capacity z.holds) × AreKept z.trains.items z.holds.items z.fresh) };
-}
-
-/// The time in a message, 0 in one that has none.
-fn message_time(message: &Msg) -> u64
-    ensures { result ≡ message_time message.now }
-{
-    match message {
-        Msg::Report { time, .. }
-        | Msg::Reading { time, .. }
-        | Msg::Time { time, .. }
-        | Msg::EntryAsk { time, .. }
-        | Msg::Ask { time, .. }
-        | Msg::Answer { time, .. }
-        | Msg::Gone { time, .. }
-        | Msg::Echo { time, .. }
-        | Msg::Order { time, .. } => *time,
-        Msg::Hand(hand) => hand.time,
-        _ => 0,
-    }
-}
-
-/// Whether a message is no request for entry elsewhere than inward from a portal of the zone, and no order on a segment of
-/// another zone.
-fn concerns(line: &Line, zone: u8, message: &Msg) -> bool
-    ensures here { result ≡ concerns line.now zone message.now }
-    ensures declared { result ≡ true → entry_declared line.now message.now ≡ true }
-{
-    match message {
-        Msg::EntryAsk { step, .. } => line.begins_at_portal(*step)
-            && line.zone_of(step.seg).0 == zone,
-        Msg::Order { order, .. } => is_own(line, zone, *order),
-        _ => true,
-    }
-}
-
-fn fresh_number(n: u32) -> bool
-    ensures { result ≡ fresh_number n }
-{
-    n < 4_294_967_293
-}
-
-fn fresh_mark(n: u32) -> bool
-    ensures { result ≡ fresh_mark n }
-{
-    n < 4_294_967_247
-}
-
-/// Whether no number and no mark of a message is too great.
-fn fresh_message(message: &Msg) -> bool
-    ensures { result ≡ fresh_message message.now }
-{
-    match message {
-        Msg::Answer { number, .. } => fresh_number(*number),
-        Msg::Auth { number, mark, .. } => fresh_number(*number) && fresh_mark(*mark),
-        _ => true,
-    }
-}
-
-/// Whether no number and no mark of a train is too great.
-pub(crate) fn fresh_train(x: &Controlled) -> bool
-    ensures { result ≡ fresh_train x.now }
-{
-    fresh_number(x.ledger.last()) && fresh_number(x.ledger.answered()) && fresh_mark(x.way.mark())
 }
 
 impl Zone {

@@ -2,8 +2,8 @@
 ghost use Rattle.std.specs.Prelude.{◌≡◌, true};
 ghost use Rattle.onboard.specs.Decision.{has_entered};
 
+use crate::rows::numbers;
 use crate::tests::line::path;
-use crate::tests::rows::numbers;
 use braking_table::{Brake, Table};
 use line_map::{End, Item, Line, LineBuilder, LineFault};
 use onboard::Verdict::{Refused, Repeat, Taken};
@@ -117,14 +117,12 @@ fn decides(line: &Line, train: Onboard, row: &str) -> bool
     tells(row, found) && next.room() == *room
 }
 
-#[test]
-fn decides_on_authorities(rt: HostRuntime) {
-    let Ok(line) = line_of(rt.alloc()) else {
-        panic!(rt; "no line");
-    };
-    let train = entered(&rt, &line);
+/// A train that has come on decides as the rows tell.
+fn try_rows(rt: &impl Abort, line: &Line, train: Onboard)
+    requires { has_entered train ≡ true }
+{
     for row in ROWS.split('\n') {
-        assert!(rt; decides(&line, train, row), "{row}");
+        assert!(rt; decides(line, train, row), "{row}");
     }
 }
 
@@ -148,11 +146,20 @@ fn try_moves(rt: &impl Abort, train: Onboard, table: &Table)
     assert!(rt; next.refuse(2) == Refused && next.refuse(2) == Repeat(2, false));
 }
 
+/// How many mm the entry of a path of more than the first segment has.
+fn entry_out_of_range(line: &Line) -> Option<u32> {
+    let mut train = Onboard::new();
+    train.keep_entry(line, &path(&STEPS[..1], 0, 101));
+    train.entry()
+}
+
 #[test]
-fn moves_up_to_its_limit(rt: HostRuntime) {
+fn a_train_decides_and_moves_up_to_its_limit(rt: HostRuntime) {
     let Ok(line) = line_of(rt.alloc()) else {
         panic!(rt; "no line");
     };
+    let train = entered(&rt, &line);
+    try_rows(&rt, &line, train);
     let brake = Brake {
         ticks: 0,
         runaway: 0,
@@ -161,15 +168,6 @@ fn moves_up_to_its_limit(rt: HostRuntime) {
     let Ok(table) = Table::new(brake) else {
         panic!(rt; "no table");
     };
-    try_moves(&rt, entered(&rt, &line), &table);
-}
-
-#[test]
-fn an_entry_out_of_range_has_no_mm(rt: HostRuntime) {
-    let Ok(line) = line_of(rt.alloc()) else {
-        panic!(rt; "no line");
-    };
-    let mut train = Onboard::new();
-    train.keep_entry(&line, &path(&STEPS[..1], 0, 101));
-    assert!(rt; train.entry() == Some(0));
+    try_moves(&rt, train, &table);
+    assert!(rt; entry_out_of_range(&line) == Some(0));
 }

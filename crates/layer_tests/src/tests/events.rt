@@ -4,6 +4,7 @@
 ghost use Rattle.std.specs.Prelude.{◌∷◌, []};
 ghost use Rattle.definitions.specs.EventFields.{has_train};
 
+use crate::rows::split;
 use arrayvec::ArrayVec;
 use definitions::document::EventLine;
 use definitions::item::{End, Item};
@@ -161,33 +162,18 @@ fn is_written_back(alloc: Global, text: &[u8], line: &Line) -> Result<bool, Allo
 
 /// Tries a row of a column and a text.
 fn try_refused(rt: &impl Abort, row: &str, line: &Line) {
-    let holds = match row.split_once(' ') {
-        Some((told, text)) => told.parse::<u32>().ok() == Some(column(text.as_bytes(), line)),
-        None => false,
-    };
+    let (told, text) = split(row, ' ');
+    let holds = told.parse::<u32>().ok() == Some(column(text.as_bytes(), line));
     assert!(rt; holds, "{row}");
 }
 
-#[test]
-fn events_are_read_and_written_back(rt: HostRuntime) -> Result<(), AllocError> {
-    let Ok(line) = line_of(rt.alloc()) else {
-        panic!(rt; "no line");
-    };
+/// Events are read and written back.
+fn try_events(rt: &(impl Abort + Alloc<A = Global>), line: &Line) -> Result<(), AllocError> {
     for text in EVENTS.split('\n') {
-        let holds = is_written_back(rt.alloc(), text.as_bytes(), &line)?;
+        let holds = is_written_back(rt.alloc(), text.as_bytes(), line)?;
         assert!(rt; holds, "{text}");
     }
     Ok(())
-}
-
-#[test]
-fn others_are_refused_at_their_columns(rt: HostRuntime) {
-    let Ok(line) = line_of(rt.alloc()) else {
-        panic!(rt; "no line");
-    };
-    for row in REFUSED.split('\n') {
-        try_refused(&rt, row, &line);
-    }
 }
 
 /// The trains 7 and 8.
@@ -212,28 +198,20 @@ fn says(told: &str, says: &EventLine) -> bool {
     }
 }
 
-#[test]
-fn text_lines_say_what_they_are(rt: HostRuntime) {
-    let Ok(line) = line_of(rt.alloc()) else {
-        panic!(rt; "no line");
-    };
+/// Text lines say what they are.
+fn try_lines(rt: &impl Abort, line: &Line) {
     let mut values: Values = ArrayVec::new();
     let mut here = EventLine::Passed;
     for row in LINES.split('\n') {
-        let holds = match row.split_once(' ') {
-            Some((told, text)) => {
-                event_line(
-                    text.as_bytes(),
-                    &line,
-                    &SevenAndEight,
-                    &mut values,
-                    &mut here,
-                );
-                says(told, &here)
-            }
-            None => false,
-        };
-        assert!(rt; holds, "{row}");
+        let (told, text) = split(row, ' ');
+        event_line(
+            text.as_bytes(),
+            line,
+            &SevenAndEight,
+            &mut values,
+            &mut here,
+        );
+        assert!(rt; says(told, &here), "{row}");
     }
 }
 
@@ -247,14 +225,22 @@ fn step_of(moves: usize) -> ArrayVec<u8, 4100> {
     text
 }
 
+/// The column of a step of so many moves of train 7, and of what follows them.
+fn column_of(line: &Line, moves: usize, rest: &[u8]) -> u32 {
+    let mut text = step_of(moves);
+    let _ = text.try_extend_from_slice(rest);
+    column(text.as_slice(), line)
+}
+
 #[test]
-fn long_steps_are_refused(rt: HostRuntime) {
+fn events_are_read_and_written_back(rt: HostRuntime) -> Result<(), AllocError> {
     let Ok(line) = line_of(rt.alloc()) else {
         panic!(rt; "no line");
     };
-    let repeated = step_of(300);
-    assert!(rt; column(repeated.as_slice(), &line) == 12);
-    let mut long = step_of(1023);
-    let _ = long.try_extend_from_slice(b" 7");
-    assert!(rt; column(long.as_slice(), &line) == 4097);
+    for row in REFUSED.split('\n') {
+        try_refused(&rt, row, &line);
+    }
+    try_lines(&rt, &line);
+    assert!(rt; column_of(&line, 300, b"") == 12 && column_of(&line, 1023, b" 7") == 4097);
+    try_events(&rt, &line)
 }

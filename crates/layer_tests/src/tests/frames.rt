@@ -1,5 +1,6 @@
 //! Frames as bytes in base 16, and the first faults of bytes that are none.
 
+use crate::rows::split;
 use arrayvec::ArrayVec;
 use msg_codec::{FrameFault, decode, encode};
 use std::process::Abort;
@@ -170,12 +171,10 @@ fn is_written_back(bytes: &[u8]) -> bool {
 
 /// Tries a row of a fault and bytes.
 fn try_fault(rt: &impl Abort, row: &str) {
-    let holds = match row.split_once(' ') {
-        Some((told, text)) => match decode(bytes_of(text).as_slice()) {
-            Ok(_) => false,
-            Err(fault) => fault_of(told) == Some(fault),
-        },
-        None => false,
+    let (told, text) = split(row, ' ');
+    let holds = match decode(bytes_of(text).as_slice()) {
+        Ok(_) => false,
+        Err(fault) => fault_of(told) == Some(fault),
     };
     assert!(rt; holds, "{row}");
 }

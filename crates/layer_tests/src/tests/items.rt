@@ -1,5 +1,6 @@
 //! Items as text, and the columns of texts that are none.
 
+use crate::rows::split;
 use edge_io::memory::VecSink;
 use line_text::{read_line_item, write_item};
 use std::alloc::{AllocError, Global};
@@ -77,10 +78,8 @@ fn is_written_back(alloc: Global, text: &[u8]) -> Result<bool, AllocError> {
 
 /// Tries a row of a column and a text.
 fn try_refused(rt: &impl Abort, row: &str) {
-    let holds = match row.split_once(' ') {
-        Some((told, text)) => told.parse::<u32>().ok() == Some(column(text.as_bytes())),
-        None => false,
-    };
+    let (told, text) = split(row, ' ');
+    let holds = told.parse::<u32>().ok() == Some(column(text.as_bytes()));
     assert!(rt; holds, "{row}");
 }
 

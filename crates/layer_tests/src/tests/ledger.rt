@@ -1,7 +1,7 @@
 //! What a ledger answers to calls in a row, worked out by hand.
 ghost use Rattle.authority_ledger.specs.Ledger.{IsLedger};
 
-use crate::tests::rows::numbers;
+use crate::rows::numbers;
 use authority_ledger::Answered::{Noted, Old, Shrunk, Stays};
 use authority_ledger::{Answered, Ledger, Pending};
 use std::process::Abort;

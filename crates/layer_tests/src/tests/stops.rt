@@ -1,6 +1,6 @@
 //! Stops that were worked out tick by tick, and brakes that have no table.
 
-use crate::tests::rows::numbers;
+use crate::rows::numbers;
 use braking_table::TableFault::{Far, Rate, Runaway};
 use braking_table::{Brake, Table, TableFault};
 use std::process::Abort;

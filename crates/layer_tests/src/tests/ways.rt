@@ -48,17 +48,17 @@ fn has_points(line: &Line, way: &Way) -> bool
         && !own.has_cell(SegId(1), 998)
 }
 
-#[test]
-fn a_way_has_places(rt: HostRuntime) {
-    let Ok(line) = line_of(rt.alloc()) else {
-        panic!(rt; "no line");
-    };
-    let way = way_of(&rt, &line, &path(&[up(1), up(2), down(3)], 20, 10));
-    assert!(rt; way.mark() == 7 && way.from() == 20 && way.end() == 1510);
-    assert!(rt; is_at(way.front_at(&line, 1500), up(2), 500));
-    assert!(rt; is_at(way.rear_at(&line, 1500), down(3), 0));
-    assert!(rt; way.place_of(&line, 8, 5) == Some(1005));
-    assert!(rt; has_points(&line, &way));
+/// Whether the way of the three segments from 20 to 1510 has its places.
+fn has_places(line: &Line, way: &Way) -> bool
+    requires { OnLine line.now way.now }
+{
+    way.mark() == 7
+        && way.from() == 20
+        && way.end() == 1510
+        && is_at(way.front_at(line, 1500), up(2), 500)
+        && is_at(way.rear_at(line, 1500), down(3), 0)
+        && way.place_of(line, 8, 5) == Some(1005)
+        && has_points(line, way)
 }
 
 /// The way up to a place.
@@ -79,15 +79,24 @@ fn begin_at(rt: &impl Abort, line: &Line, way: &mut Way, place: u32) -> u32
     way.set_from(line, place)
 }
 
+/// A way from 20 to the end of segment 1 goes on, ends and begins later.
+fn moves(rt: &impl Abort, line: &Line, way: &mut Way)
+    requires { OnLine line.now way.old }
+{
+    assert!(rt; add(rt, line, way, up(2)) == Ok(()));
+    assert!(rt; add(rt, line, way, up(1)) == Err(WayFault::NotJoined(2)));
+    end_at(rt, line, way, 1200);
+    assert!(rt; begin_at(rt, line, way, 1000) == 1000);
+    assert!(rt; way.mark() == 8 && way.from() == 0 && way.end() == 200);
+}
+
 #[test]
-fn a_way_moves(rt: HostRuntime) {
+fn ways_have_places_and_move(rt: HostRuntime) {
     let Ok(line) = line_of(rt.alloc()) else {
         panic!(rt; "no line");
     };
+    let whole = way_of(&rt, &line, &path(&[up(1), up(2), down(3)], 20, 10));
+    assert!(rt; has_places(&line, &whole));
     let mut way = way_of(&rt, &line, &path(&[up(1)], 20, 1000));
-    assert!(rt; add(&rt, &line, &mut way, up(2)) == Ok(()));
-    assert!(rt; add(&rt, &line, &mut way, up(1)) == Err(WayFault::NotJoined(2)));
-    end_at(&rt, &line, &mut way, 1200);
-    assert!(rt; begin_at(&rt, &line, &mut way, 1000) == 1000);
-    assert!(rt; way.mark() == 8 && way.from() == 0 && way.end() == 200);
+    moves(&rt, &line, &mut way);
 }

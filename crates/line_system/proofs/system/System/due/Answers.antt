@@ -1,4 +1,4 @@
-use Rattle.line_system.specs.State.{parts, tally}
+use Rattle.line_state.specs.State.{parts, tally}
 use Rattle.line_system.proofs.Go_kept.{due_is, due_link, due_few}
 use Rattle.line_system.proofs.system.System.due.Goals as goal
 

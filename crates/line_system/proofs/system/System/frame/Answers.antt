@@ -1,8 +1,8 @@
 use Rattle.std.proofs.Common.{List, subst}
 use Rattle.std.specs.Option.{option_copied}
 use Rattle.definitions.specs.declared.message.Msg.{Msg}
-use Rattle.line_system.specs.Frames.{IsFrameAt}
-use Rattle.line_system.specs.State.{parts, tally}
+use Rattle.line_state.specs.Frames.{IsFrameAt}
+use Rattle.line_state.specs.State.{parts, tally}
 use Rattle.line_system.proofs.Go_kept.{sent_is}
 use Rattle.line_system.proofs.system.System.frame.Goals as goal
 

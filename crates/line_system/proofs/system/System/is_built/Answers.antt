@@ -2,7 +2,7 @@ use Rattle.std.proofs.Common.{◌∙◌, ap, reverse}
 use Rattle.definitions.specs.Premises.{built}
 use Rattle.definitions.specs.Steps.{story_of}
 use Rattle.line_system.specs.History.{History}
-use Rattle.line_system.specs.State.{parts, tally}
+use Rattle.line_state.specs.State.{parts, tally}
 use Rattle.line_system.proofs.Go_kept.{built_plain}
 use Rattle.line_system.proofs.system.System.is_built.Goals as goal
 

@@ -6,7 +6,7 @@ use Rattle.definitions.specs.Track.{Line}
 use Rattle.definitions.specs.Trace.{no_room}
 use Rattle.event_laws.proofs.Comes_kept.{room_left}
 use Rattle.line_system.specs.History.{History}
-use Rattle.line_system.specs.State.{parts, tally}
+use Rattle.line_state.specs.State.{parts, tally}
 use Rattle.line_system.proofs.Go_kept.{Goes, goes_same, kept_same, go_kept, go_lines, go_premise, go_fits, go_form, go_range, go_frames, go_count, go_issued}
 use Rattle.line_system.proofs.system.System.step.Goals as goal
 
@@ -17,69 +17,24 @@ few_events h line xs view room =
     let few = room_left h.line h.events room in
     omega arith
 
-pub step-requires-clause-on_line : goal.step-requires-clause-on_line
-step-requires-clause-on_line c =
+pub step-requires : goal.step-requires
+step-requires c =
     let m = c.make_room.ensures in
     let g : Goes c.args.self.now c.self.inside.line c.make_room.new.events.items (parts c.make_room.new.state) (tally c.make_room.new.state) c.make_room.new.state.zone c.args.event.now =
     goes_same c.args.self.now _ _ _ _ _ _ _ _ _ c.args.event.now c.self.view_is c.self.invariant (few_events c.args.self.now _ _ c.self.view_is c.requires.room)
     m.events m.parts m.tally m.zone c.requires.built c.requires.within c.requires.kept in
-    g.keeps.on_line
-
-pub step-requires-clause-world_on : goal.step-requires-clause-world_on
-step-requires-clause-world_on c =
-    let m = c.make_room.ensures in
-    let g : Goes c.args.self.now c.self.inside.line c.make_room.new.events.items (parts c.make_room.new.state) (tally c.make_room.new.state) c.make_room.new.state.zone c.args.event.now =
-    goes_same c.args.self.now _ _ _ _ _ _ _ _ _ c.args.event.now c.self.view_is c.self.invariant (few_events c.args.self.now _ _ c.self.view_is c.requires.room)
-    m.events m.parts m.tally m.zone c.requires.built c.requires.within c.requires.kept in
-    g.keeps.world_on
-
-pub step-requires-clause-built : goal.step-requires-clause-built
-step-requires-clause-built c =
-    let m = c.make_room.ensures in
-    let g : Goes c.args.self.now c.self.inside.line c.make_room.new.events.items (parts c.make_room.new.state) (tally c.make_room.new.state) c.make_room.new.state.zone c.args.event.now =
-    goes_same c.args.self.now _ _ _ _ _ _ _ _ _ c.args.event.now c.self.view_is c.self.invariant (few_events c.args.self.now _ _ c.self.view_is c.requires.room)
-    m.events m.parts m.tally m.zone c.requires.built c.requires.within c.requires.kept in
-    go_form _ _ _ _ _ _ _ g
-
-pub step-requires-clause-fits : goal.step-requires-clause-fits
-step-requires-clause-fits c =
-    let m = c.make_room.ensures in
-    let g : Goes c.args.self.now c.self.inside.line c.make_room.new.events.items (parts c.make_room.new.state) (tally c.make_room.new.state) c.make_room.new.state.zone c.args.event.now =
-    goes_same c.args.self.now _ _ _ _ _ _ _ _ _ c.args.event.now c.self.view_is c.self.invariant (few_events c.args.self.now _ _ c.self.view_is c.requires.room)
-    m.events m.parts m.tally m.zone c.requires.built c.requires.within c.requires.kept in
-    go_fits _ _ _ _ _ _ _ g
-
-pub step-requires-clause-kept : goal.step-requires-clause-kept
-step-requires-clause-kept c =
-    let m = c.make_room.ensures in
-    let g : Goes c.args.self.now c.self.inside.line c.make_room.new.events.items (parts c.make_room.new.state) (tally c.make_room.new.state) c.make_room.new.state.zone c.args.event.now =
-    goes_same c.args.self.now _ _ _ _ _ _ _ _ _ c.args.event.now c.self.view_is c.self.invariant (few_events c.args.self.now _ _ c.self.view_is c.requires.room)
-    m.events m.parts m.tally m.zone c.requires.built c.requires.within c.requires.kept in
-    go_premise _ _ _ _ _ _ _ g
-
-pub step-requires-clause-range : goal.step-requires-clause-range
-step-requires-clause-range c =
-    let m = c.make_room.ensures in
-    let g : Goes c.args.self.now c.self.inside.line c.make_room.new.events.items (parts c.make_room.new.state) (tally c.make_room.new.state) c.make_room.new.state.zone c.args.event.now =
-    goes_same c.args.self.now _ _ _ _ _ _ _ _ _ c.args.event.now c.self.view_is c.self.invariant (few_events c.args.self.now _ _ c.self.view_is c.requires.room)
-    m.events m.parts m.tally m.zone c.requires.built c.requires.within c.requires.kept in
-    go_range _ _ _ _ _ _ _ g
-
-pub step-requires-clause-frames : goal.step-requires-clause-frames
-step-requires-clause-frames c =
-    let m = c.make_room.ensures in
-    let g : Goes c.args.self.now c.self.inside.line c.make_room.new.events.items (parts c.make_room.new.state) (tally c.make_room.new.state) c.make_room.new.state.zone c.args.event.now =
-    goes_same c.args.self.now _ _ _ _ _ _ _ _ _ c.args.event.now c.self.view_is c.self.invariant (few_events c.args.self.now _ _ c.self.view_is c.requires.room)
-    m.events m.parts m.tally m.zone c.requires.built c.requires.within c.requires.kept in
-    go_frames _ _ _ _ _ _ _ g
-
-pub step-requires-clause-count : goal.step-requires-clause-count
-step-requires-clause-count c =
-    let m = c.make_room.ensures in
-    let g : Goes c.args.self.now c.self.inside.line c.make_room.new.events.items (parts c.make_room.new.state) (tally c.make_room.new.state) c.make_room.new.state.zone c.args.event.now =
-    goes_same c.args.self.now _ _ _ _ _ _ _ _ _ c.args.event.now c.self.view_is c.self.invariant (few_events c.args.self.now _ _ c.self.view_is c.requires.room)
-    m.events m.parts m.tally m.zone c.requires.built c.requires.within c.requires.kept in
-    go_count _ _ _ _ _ _ _ g
+    record {
+      empty = c.clear.ensures;
+      on_line = g.keeps.on_line;
+      world_on = g.keeps.world_on;
+      fits = go_fits _ _ _ _ _ _ _ g;
+      built = go_form _ _ _ _ _ _ _ g;
+      kept = go_premise _ _ _ _ _ _ _ g;
+      range = go_range _ _ _ _ _ _ _ g;
+      frames = go_frames _ _ _ _ _ _ _ g;
+      room = c.in_ok-make_room.ensures.messages;
+      count = go_count _ _ _ _ _ _ _ g;
+    }
 
 pub invariant_of-self : goal.invariant_of-self
 invariant_of-self c = let m = c.make_room.ensures in kept_same _ _ _ _ _ _ _ _ _ m.events m.parts m.tally m.zone c.self.invariant

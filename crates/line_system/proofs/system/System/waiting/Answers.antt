@@ -1,7 +1,7 @@
 use Rattle.std.proofs.Common.{List, ◌∙◌, ap, sym}
 use Rattle.std.specs.Prelude.{slice_get}
 use Rattle.definitions.specs.declared.event.Event.{Event}
-use Rattle.line_system.specs.State.{parts, tally}
+use Rattle.line_state.specs.State.{parts, tally}
 use Rattle.line_system.proofs.Go_kept.{lost_of, dues_none}
 use Rattle.line_system.proofs.Next_waits.{next_waits, later_waits, none_waits}
 use Rattle.line_system.proofs.system.System.waiting.Goals as goal

@@ -1,7 +1,7 @@
 use Rattle.std.proofs.Common.{reverse, subst}
 use Rattle.definitions.specs.Steps.{story_of}
 use Rattle.line_system.specs.History.{History}
-use Rattle.line_system.specs.State.{parts, tally}
+use Rattle.line_state.specs.State.{parts, tally}
 use Rattle.line_system.specs.Shows.{ShowsWorld}
 use Rattle.line_system.proofs.Shows_zone.{shows_world}
 use Rattle.line_system.proofs.system.System.world.Goals as goal

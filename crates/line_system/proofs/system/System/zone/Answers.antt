@@ -4,7 +4,7 @@ use Rattle.definitions.specs.Zones.{zone_id}
 use Rattle.zone_state.specs.Zone.{ZoneKept}
 use Rattle.invariant_laws.proofs.Zone_only.{zone_only}
 use Rattle.line_system.specs.History.{History}
-use Rattle.line_system.specs.State.{parts, tally}
+use Rattle.line_state.specs.State.{parts, tally}
 use Rattle.line_system.specs.Shows.{ShowsNotions}
 use Rattle.line_system.proofs.Shows_zone.{shows_zone}
 use Rattle.line_system.proofs.system.System.zone.Goals as goal

@@ -4,7 +4,7 @@ use Rattle.definitions.specs.World.{trains}
 use Rattle.definitions.specs.Steps.{story_of}
 use Rattle.document_laws.proofs.Said_built.{has_declared}
 use Rattle.line_system.specs.History.{History}
-use Rattle.line_system.specs.State.{parts, tally}
+use Rattle.line_state.specs.State.{parts, tally}
 use Rattle.line_system.proofs.Go_kept.{declared_plain}
 use Rattle.line_system.proofs.system.SystemDeclaredTrains.has.Goals as goal
 

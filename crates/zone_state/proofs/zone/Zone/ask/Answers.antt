@@ -5,11 +5,12 @@ use Rattle.definitions.specs.Steps.{deny}
 use Rattle.definitions.specs.Track.{seg_len}
 use Rattle.plain_state.specs.declared.Controlled.{Controlled}
 use Rattle.plain_state.specs.Zone.{find_controlled, fresh_train, lengthened, path_found}
-use Rattle.zone_state.specs.Zone.{AllFit, ReachFitsFound, path_granted}
-use Rattle.zone_state.proofs.Found_is.{found_is, absent, changed_is, passes_is, fit_found, fit_here, fit_set, fit_again}
+use Rattle.zone_trains.specs.Trains.{AllFit, path_granted}
+use Rattle.zone_state.specs.Zone.{ReachFitsFound}
+use Rattle.zone_trains.proofs.Found_is.{found_is, absent, changed_is, passes_is, fit_found, fit_here, fit_set, fit_again}
 use Rattle.zone_reach.specs.Reach.{reach_value}
 use Rattle.list_laws.proofs.By_test.{none_of}
-use Rattle.zone_state.proofs.Granted_is.{granted_is, reach_free}
+use Rattle.zone_trains.proofs.Granted_is.{granted_is, reach_free}
 use Rattle.zone_state.proofs.Holds_set.{holds_set}
 use Rattle.zone_state.proofs.Kept_put.{kept_train, kept_hold}
 use Rattle.zone_state.proofs.zone.Zone.ask.Goals as goal

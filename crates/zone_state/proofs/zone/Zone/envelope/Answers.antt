@@ -1,6 +1,6 @@
 use Rattle.std.proofs.Common.{sym, arith}
-use Rattle.zone_state.specs.Zone.{AllFit}
-use Rattle.zone_state.proofs.Found_is.{fit_found}
+use Rattle.zone_trains.specs.Trains.{AllFit}
+use Rattle.zone_trains.proofs.Found_is.{fit_found}
 use Rattle.zone_state.proofs.Held_some.{envelope_none, envelope_some}
 use Rattle.zone_state.proofs.zone.Zone.envelope.Goals as goal
 

@@ -1,7 +1,8 @@
 use Rattle.std.proofs.Common.{refl, sym, ◌∙◌}
 use Rattle.plain_state.specs.Zone.{grown_train}
-use Rattle.zone_state.proofs.Narrowed_stands.{all_grown_fit, none_passes}
-use Rattle.zone_state.proofs.Found_is.{written}
+use Rattle.zone_trains.proofs.Narrowed_stands.{all_grown_fit}
+use Rattle.zone_state.proofs.Passed_same.{none_passes}
+use Rattle.zone_trains.proofs.Found_is.{written}
 use Rattle.zone_state.proofs.Holds_set.{holds_mapped}
 use Rattle.zone_state.proofs.Kept_put.{kept_grown}
 use Rattle.zone_state.proofs.zone.Zone.pass.Goals as goal

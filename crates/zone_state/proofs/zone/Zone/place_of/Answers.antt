@@ -1,5 +1,5 @@
-use Rattle.zone_state.specs.Zone.{IsPlace}
-use Rattle.zone_state.proofs.Found_is.{known_is}
+use Rattle.zone_trains.specs.Trains.{IsPlace}
+use Rattle.zone_trains.proofs.Found_is.{known_is}
 use Rattle.zone_state.proofs.zone.Zone.place_of.Goals as goal
 
 pub place_among-requires : goal.place_among-requires

@@ -1,7 +1,7 @@
 use Rattle.std.proofs.Common.{sym}
-use Rattle.zone_state.specs.Zone.{AllFit}
-use Rattle.zone_state.proofs.Found_is.{found_is, fit_found, fit_path}
-use Rattle.zone_state.proofs.Checked_fits.{pair_some}
+use Rattle.zone_trains.specs.Trains.{AllFit}
+use Rattle.zone_trains.proofs.Found_is.{found_is, fit_found, fit_path}
+use Rattle.zone_trains.proofs.Checked_fits.{pair_some}
 use Rattle.zone_state.proofs.zone.Zone.reach_of.Goals as goal
 
 pub reach_from-requires-clause-fits : goal.reach_from-requires-clause-fits

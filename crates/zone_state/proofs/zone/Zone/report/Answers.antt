@@ -4,9 +4,9 @@ use Rattle.definitions.specs.Track.{seg_len}
 use Rattle.way_path.specs.Ways.{plain_way}
 use Rattle.plain_state.specs.declared.Controlled.{Controlled}
 use Rattle.plain_state.specs.Zone.{reported_by, has_mark}
-use Rattle.zone_state.specs.Zone.{AllFit}
-use Rattle.zone_state.proofs.Found_is.{found_is, absent, changed_is, read_same, fit_found, fit_here, fit_set, fit_again}
-use Rattle.zone_state.proofs.Marked.{marked, not_marked}
+use Rattle.zone_trains.specs.Trains.{AllFit}
+use Rattle.zone_trains.proofs.Found_is.{found_is, absent, changed_is, read_same, fit_found, fit_here, fit_set, fit_again}
+use Rattle.zone_trains.proofs.Marked.{marked, not_marked}
 use Rattle.zone_state.proofs.Holds_set.{holds_set}
 use Rattle.zone_state.proofs.Kept_put.{kept_train, kept_hold}
 use Rattle.zone_state.proofs.zone.Zone.report.Goals as goal

@@ -3,8 +3,8 @@ use Rattle.std.proofs.lemmas.Bool.Decides.{nat_tests}
 use Rattle.definitions.specs.Track.{seg_len}
 use Rattle.way_path.specs.Ways.{plain_way}
 use Rattle.plain_state.specs.Zone.{end_pending}
-use Rattle.zone_state.proofs.Found_is.{found_is, absent}
-use Rattle.zone_state.proofs.Granted_is.{again_is}
+use Rattle.zone_trains.proofs.Found_is.{found_is, absent}
+use Rattle.zone_trains.proofs.Granted_is.{again_is}
 use Rattle.zone_state.proofs.zone.Zone.send_again.Goals as goal
 
 pub returns-in_default : goal.returns-in_default

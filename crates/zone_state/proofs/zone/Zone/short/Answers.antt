@@ -2,8 +2,8 @@ use Rattle.std.proofs.Common.{refl, sym, ap, ◌∙◌}
 use Rattle.definitions.specs.Track.{seg_len}
 use Rattle.plain_state.specs.declared.Controlled.{Controlled}
 use Rattle.plain_state.specs.Zone.{shortened}
-use Rattle.zone_state.specs.Zone.{AllFit}
-use Rattle.zone_state.proofs.Found_is.{found_is, absent, changed_is, kept, fit_set, fit_found, fit_here, fit_again}
+use Rattle.zone_trains.specs.Trains.{AllFit}
+use Rattle.zone_trains.proofs.Found_is.{found_is, absent, changed_is, kept, fit_set, fit_found, fit_here, fit_again}
 use Rattle.zone_state.proofs.Holds_set.{holds_stay}
 use Rattle.zone_state.proofs.Kept_put.{kept_train}
 use Rattle.zone_state.proofs.Shortened_same.{shortened_same}

@@ -1,7 +1,7 @@
 use Rattle.std.proofs.Common.{◌≡◌, true, false, sym, ap, ◌∙◌, max}
 use Rattle.plain_state.specs.Zone.{zone_acts_on}
 use Rattle.zone_state.specs.Zone.{ZoneKept}
-use Rattle.zone_state.proofs.Narrowed_stands.{can_grow}
+use Rattle.zone_trains.proofs.Narrowed_stands.{can_grow}
 use Rattle.zone_state.proofs.After_follows.{fresh_grown}
 use Rattle.zone_state.proofs.zone.Zone.take.Goals as goal
 

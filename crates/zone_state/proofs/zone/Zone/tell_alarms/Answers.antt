@@ -1,4 +1,4 @@
-use Rattle.zone_state.proofs.After_follows.{told_still}
+use Rattle.zone_trains.proofs.Told.{told_still}
 use Rattle.zone_state.proofs.zone.Zone.tell_alarms.Goals as goal
 
 pub returns-else-before-self : goal.returns-else-before-self

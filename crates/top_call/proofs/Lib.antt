@@ -1,0 +1,4 @@
+mod Told
+mod Done
+mod Midway_more
+mod All_safe

@@ -1,6 +1,0 @@
-use Rattle.std.proofs.Common.{take}
-use Rattle.zone_state.proofs.After_follows.{Told}
-use Rattle.zone_state.proofs.clock.alarms.Given as goal
-
-abbrev pub invariant-loop-x : goal.invariant-loop-x
-invariant-loop-x l = Told l.ms l.zone l.before l.clock (take l.x-index l.trains) l.x-index l.fn.outs l.outs
