@@ -7,7 +7,7 @@ use std::marker::Model;
 use thiserror::Error;
 
 /// How a train stops: at first its speed rises for some ticks of 10 ms, and then it falls to 0.
-#[derive(Clone, Copy, PartialEq, Eq, Debug)]
+#[derive(Clone, Copy, PartialEq, Eq)]
 pub struct Brake {
     /// How many ticks of 10 ms the speed rises for.
     pub ticks: u16,

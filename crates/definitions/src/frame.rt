@@ -1,7 +1,7 @@
 //! Why a field of a frame is not read.
 
 /// Why a field was not read.
-#[derive(Clone, Copy, PartialEq, Eq, Debug)]
+#[derive(Clone, Copy)]
 pub enum Unread {
     /// The bytes end inside it or before it.
     Short,

@@ -40,51 +40,7 @@ pub enum LineItem {
     Silent(u64),
 }
 
-/// Equal ranges. It takes no memory.
-fn copy_ranges(ranges: &ArrayVec<SectionRange, 3>) -> ArrayVec<SectionRange, 3>
-    ensures { result ≡ ranges.now }
-{
-    let mut out: ArrayVec<SectionRange, 3> = ArrayVec::new();
-    let _ = out.try_extend_from_slice(ranges.as_slice());
-    out
-}
-
-/// Equal segments. It takes no memory.
-fn copy_segments(segments: &ArrayVec<u64, 16>) -> ArrayVec<u64, 16>
-    ensures { result ≡ segments.now }
-{
-    let mut out: ArrayVec<u64, 16> = ArrayVec::new();
-    let _ = out.try_extend_from_slice(segments.as_slice());
-    out
-}
-
 impl LineItem {
-    /// An equal item. It takes no memory.
-    pub fn copy(&self) -> LineItem
-        ensures { result ≡ self.now }
-    {
-        match self {
-            LineItem::Zone(zone) => LineItem::Zone(*zone),
-            LineItem::Segment(segment, zone, length) => {
-                LineItem::Segment(*segment, *zone, *length)
-            }
-            LineItem::Joint(one, other) => LineItem::Joint(*one, *other),
-            LineItem::Switch(switch, point, normal, reverse, throat) => LineItem::Switch(
-                *switch, *point, *normal, *reverse, *throat,
-            ),
-            LineItem::Portal(end) => LineItem::Portal(*end),
-            LineItem::Buffer(end) => LineItem::Buffer(*end),
-            LineItem::Section(section, ranges) => {
-                LineItem::Section(*section, copy_ranges(ranges))
-            }
-            LineItem::Block(block, dir, segments) => {
-                LineItem::Block(*block, *dir, copy_segments(segments))
-            }
-            LineItem::Brake(ticks, runaway, rate) => LineItem::Brake(*ticks, *runaway, *rate),
-            LineItem::Silent(ms) => LineItem::Silent(*ms),
-        }
-    }
-
     /// The item that the rules and the program know; none of a form that has no meaning yet.
     pub fn built(&self) -> Option<Item>
         ensures { result ≡ built_item self.now }

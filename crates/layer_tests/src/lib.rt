@@ -1,7 +1,7 @@
-//! Tests of the layers below the zone: each public call succeeds, and the parts fit one another. The tests above read rows of tables
-//! as these do.
+//! Tests of the layers below the top call: each public call succeeds, and the parts fit one another.
 #![tactic(auto)]
 
-pub mod rows;
+#[cfg(test)]
+mod rows;
 #[cfg(test)]
 mod tests;

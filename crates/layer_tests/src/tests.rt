@@ -1,4 +1,4 @@
-//! One file for each layer, and the line on which ways and the world are tried.
+//! One file for each layer, and the lines on which they are tried.
 
 mod decisions;
 mod events;
@@ -7,10 +7,10 @@ mod fronts;
 mod items;
 mod ledger;
 mod line;
+mod links;
 mod outcomes;
-mod room;
 mod sets;
 mod stops;
 mod streams;
-mod ways;
-mod world;
+mod system;
+mod zone;

@@ -3,10 +3,20 @@
 use crate::tables::{ROWS, parts, tables};
 use edge_io::memory::{SliceSource, VecSink};
 use edge_io::stream::NoGate;
-use layer_tests::rows::{numbers, split};
 use std::alloc::{AllocError, Global};
 use std::process::Abort;
 use top_call::top::cbtc_top;
+
+/// What stands in front of the first such letter and what stands behind it; all and nothing where it is not there.
+fn split(text: &str, letter: char) -> (&str, &str) {
+    text.split_once(letter).unwrap_or((text, ""))
+}
+
+/// A number at the front of a text, and what stands behind it and a space.
+fn counted(text: &str) -> (u32, &str) {
+    let (count, rest) = split(text, ' ');
+    (count.parse::<u32>().unwrap_or(0), rest)
+}
 
 /// The text of a part, without its last LF.
 fn part(name: &str) -> &'static str {
@@ -47,12 +57,6 @@ fn add_filled(all: &mut Vec<u8>, size: u32, text: &str) -> Result<(), AllocError
     }
     all.push(b'\n')?;
     Ok(())
-}
-
-/// A number at the front of a text, and what stands behind it and a space.
-fn counted(text: &str) -> (u32, &str) {
-    let (count, rest) = split(text, ' ');
-    (count.parse::<u32>().unwrap_or(0), rest)
 }
 
 /// Adds the text lines that a line of a table stands for.
@@ -147,11 +151,12 @@ impl Rows {
 
     /// The limits of the call.
     fn limit(&mut self, told: &str) {
-        if let [read, write, room, open] = *numbers(told).as_slice() {
-            self.limits = Limits { read, write, room };
-            if open == 1 {
-                let _ = self.input.pop();
-            }
+        let (read, rest) = counted(told);
+        let (write, rest) = counted(rest);
+        let (room, open) = counted(rest);
+        self.limits = Limits { read, write, room };
+        if open == "1" {
+            let _ = self.input.pop();
         }
     }
 
@@ -212,42 +217,5 @@ fn documents_of_the_tables(rt: HostRuntime) -> Result<(), AllocError> {
         rows.table(&rt, table)?;
     }
     assert!(rt; rows.tried == ROWS);
-    Ok(())
-}
-
-/// The document of one train and what it gives, in pieces: a comment of so many bytes fills the first piece but for so many.
-fn split_gives(
-    alloc: Global,
-    document: &[u8],
-    first: usize,
-    text: &[u8],
-) -> Result<bool, AllocError> {
-    let mut input = vec![in alloc; b'#'; 65_535usize.saturating_sub(first)]?;
-    input.push(b'\n')?;
-    input.extend_from_slice(document)?;
-    // The sink is called once for each of the two pieces and once at the end.
-    let limits = Limits { write: 4, ..LIMITS };
-    gives(alloc, "run", input.as_slice(), limits, 0, text)
-}
-
-/// A piece may end anywhere in a document.
-#[test]
-fn in_pieces(rt: HostRuntime) -> Result<(), AllocError> {
-    let mut document = Vec::new(rt.alloc());
-    for name in [
-        "+ four segments",
-        "+ asks for entry",
-        "+ comes on",
-        "+ goes on",
-    ] {
-        add_line(rt.alloc(), &mut document, name)?;
-    }
-    let _ = document.pop();
-    let mut text = Vec::new(rt.alloc());
-    add_line(rt.alloc(), &mut text, "+ told of one train")?;
-    for first in 0..document.len() {
-        let holds = split_gives(rt.alloc(), document.as_slice(), first, text.as_slice())?;
-        assert!(rt; holds, "{first} bytes in the first piece");
-    }
     Ok(())
 }

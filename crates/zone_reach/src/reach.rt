@@ -16,7 +16,7 @@ use track_points::{DirSeg, Path, TrainId};
 use way_path::on_steps::{last_step, length_of, total};
 
 /// How far an extension reaches beyond the end of a way, in mm, and what stops it there.
-#[derive(Clone, Copy, PartialEq, Eq, Debug)]
+#[derive(Clone, Copy)]
 pub struct Reach {
     pub distance: u32,
     pub obstacle: Obstacle,

@@ -3,36 +3,32 @@ ghost use Rattle.std.specs.Prelude.{◌≡◌, true};
 ghost use Rattle.onboard.specs.Decision.{has_entered};
 
 use crate::rows::numbers;
-use crate::tests::line::path;
+use crate::tests::line::{line_of, up};
+use arrayvec::ArrayVec;
 use braking_table::{Brake, Table};
-use line_map::{End, Item, Line, LineBuilder, LineFault};
+use line_map::Line;
 use onboard::Verdict::{Refused, Repeat, Taken};
 use onboard::{Onboard, Verdict};
-use std::alloc::Global;
 use std::process::Abort;
-use track_points::{Dir, DirSeg, SegId};
-
-fn end(segment: u64, dir: Dir) -> End {
-    End { segment, dir }
-}
+use track_points::Path;
 
 /// Segment 1 of 100 mm after a portal, segment 2 of 50 mm, and segment 3 of 30 mm.
-fn line_of(alloc: Global) -> Result<Line, LineFault> {
-    let mut builder = LineBuilder::new(alloc).map_err(|_| LineFault::Memory)?;
-    let items = [
-        Item::Zone(1),
-        Item::Segment(1, 1, 100),
-        Item::Segment(2, 1, 50),
-        Item::Segment(3, 1, 30),
-        Item::Joint(end(1, Dir::Up), end(2, Dir::Down)),
-        Item::Joint(end(2, Dir::Up), end(3, Dir::Down)),
-        Item::Portal(end(1, Dir::Down)),
-        Item::Buffer(end(3, Dir::Up)),
-    ];
-    for item in &items {
-        builder.add(item)?;
+const LINE: &str = "zone 1
+segment 1 1 100
+segment 2 1 50
+segment 3 1 30
+joint 1+ 2-
+joint 2+ 3-
+portal 1-
+buffer 3+";
+
+/// A path on the first segments, so many of the three.
+fn path(count: u32, from: u32, to: u32) -> Path {
+    let mut steps = ArrayVec::new();
+    for seg in 1..=count.min(3) {
+        let _ = steps.try_push(up(seg as u16));
     }
-    builder.finish()
+    Path { steps, from, to }
 }
 
 /// A train of 40 mm comes on over segment 1: its head has 60 mm up to the limit.
@@ -40,27 +36,11 @@ fn entered(rt: &impl Abort, line: &Line) -> Onboard
     ensures { has_entered result ≡ true }
 {
     let mut train = Onboard::new();
-    train.keep_entry(line, &path(&STEPS[..1], 0, 100));
+    train.keep_entry(line, &path(1, 0, 100));
     assert!(rt; train.entry() == Some(100));
     train.enter(line, 40);
     train
 }
-
-/// The steps of the line.
-const STEPS: [DirSeg; 3] = [
-    DirSeg {
-        seg: SegId(1),
-        dir: Dir::Up,
-    },
-    DirSeg {
-        seg: SegId(2),
-        dir: Dir::Up,
-    },
-    DirSeg {
-        seg: SegId(3),
-        dir: Dir::Up,
-    },
-];
 
 /// The number that the train has refused before, 0 for none. Then an authority, by its number and its mark, how many steps
 /// its path has and its two offsets, and how many mm the train needs to stop. It has 5 steps behind its head, and is at the
@@ -106,15 +86,13 @@ fn tells(row: &str, verdict: Verdict) -> bool {
 fn decides(line: &Line, train: Onboard, row: &str) -> bool
     requires { has_entered train ≡ true }
 {
-    let row_numbers = numbers(row);
-    let [refused, number, mark, count, from, to, stop, room] = row_numbers.as_slice() else {
+    let [refused, number, mark, count, from, to, stop, room] = *numbers(row).as_slice() else {
         return false;
     };
-    let steps = &STEPS[..(*count as usize).min(3)];
     let mut next = train;
-    let _ = next.refuse(*refused);
-    let found = next.take_auth(line, *number, *mark, &path(steps, *from, *to), 5, 40, *stop);
-    tells(row, found) && next.room() == *room
+    let _ = next.refuse(refused);
+    let found = next.take_auth(line, number, mark, &path(count, from, to), 5, 40, stop);
+    tells(row, found) && next.room() == room
 }
 
 /// A train that has come on decides as the rows tell.
@@ -149,15 +127,13 @@ fn try_moves(rt: &impl Abort, train: Onboard, table: &Table)
 /// How many mm the entry of a path of more than the first segment has.
 fn entry_out_of_range(line: &Line) -> Option<u32> {
     let mut train = Onboard::new();
-    train.keep_entry(line, &path(&STEPS[..1], 0, 101));
+    train.keep_entry(line, &path(1, 0, 101));
     train.entry()
 }
 
 #[test]
 fn a_train_decides_and_moves_up_to_its_limit(rt: HostRuntime) {
-    let Ok(line) = line_of(rt.alloc()) else {
-        panic!(rt; "no line");
-    };
+    let line = line_of(&rt, LINE);
     let train = entered(&rt, &line);
     try_rows(&rt, &line, train);
     let brake = Brake {

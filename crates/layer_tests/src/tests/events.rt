@@ -5,16 +5,24 @@ ghost use Rattle.std.specs.Prelude.{◌∷◌, []};
 ghost use Rattle.definitions.specs.EventFields.{has_train};
 
 use crate::rows::split;
+use crate::tests::line::line_of;
 use arrayvec::ArrayVec;
 use definitions::document::EventLine;
-use definitions::item::{End, Item};
 use definitions::trains::DeclaredTrains;
-use edge_io::memory::VecSink;
-use line_map::{Line, LineBuilder, LineFault};
+use edge_io::buffer::TextBuffer;
+use line_map::Line;
 use script_text::{Values, event_line, read_event, write_event};
-use std::alloc::{AllocError, Global};
+use std::alloc::AllocError;
 use std::process::Abort;
-use track_points::{Dir, TrainId};
+use track_points::TrainId;
+
+/// The line of the tests.
+const LINE: &str = "zone 1
+segment 1 1 1000
+segment 2 1 500
+joint 1+ 2-
+portal 1-
+buffer 2+";
 
 /// Events of each form that the line and the trains allow.
 const EVENTS: &str = "train 9 1000 0 1 eq
@@ -120,28 +128,6 @@ event step 5 8 3600000
 9 ask 7 1 3+ 5
 event ask 7 1 1+ 2+ 5";
 
-/// An end of a segment.
-fn end_of(segment: u64, dir: Dir) -> End {
-    End { segment, dir }
-}
-
-/// The line of the tests.
-fn line_of(alloc: Global) -> Result<Line, LineFault> {
-    let items = [
-        Item::Zone(1),
-        Item::Segment(1, 1, 1000),
-        Item::Segment(2, 1, 500),
-        Item::Joint(end_of(1, Dir::Up), end_of(2, Dir::Down)),
-        Item::Portal(end_of(1, Dir::Down)),
-        Item::Buffer(end_of(2, Dir::Up)),
-    ];
-    let mut builder = LineBuilder::new(alloc).map_err(|_| LineFault::Memory)?;
-    for item in &items {
-        builder.add(item)?;
-    }
-    builder.finish()
-}
-
 /// The column at which a text is refused; 0 where it is an event.
 fn column(text: &[u8], line: &Line) -> u32 {
     match read_event(text, line, &[TrainId(7), TrainId(8)]) {
@@ -151,29 +137,30 @@ fn column(text: &[u8], line: &Line) -> u32 {
 }
 
 /// Whether a text is an event, which is written as that text.
-fn is_written_back(alloc: Global, text: &[u8], line: &Line) -> Result<bool, AllocError> {
-    let mut sink = VecSink::new(alloc, 100, &[])?;
-    let Ok(event) = read_event(text, line, &[TrainId(7), TrainId(8)]) else {
-        return Ok(false);
-    };
-    let written = write_event(&event, &mut sink).is_ok();
-    Ok(written && sink.bytes() == text)
-}
-
-/// Tries a row of a column and a text.
-fn try_refused(rt: &impl Abort, row: &str, line: &Line) {
-    let (told, text) = split(row, ' ');
-    let holds = told.parse::<u32>().ok() == Some(column(text.as_bytes(), line));
-    assert!(rt; holds, "{row}");
-}
-
-/// Events are read and written back.
-fn try_events(rt: &(impl Abort + Alloc<A = Global>), line: &Line) -> Result<(), AllocError> {
-    for text in EVENTS.split('\n') {
-        let holds = is_written_back(rt.alloc(), text.as_bytes(), line)?;
-        assert!(rt; holds, "{text}");
+fn is_written_back(text: &[u8], line: &Line, out: &mut TextBuffer) -> bool {
+    match read_event(text, line, &[TrainId(7), TrainId(8)]) {
+        Ok(event) => {
+            out.clear();
+            write_event(&event, out).is_ok() && out.as_slice() == text
+        }
+        Err(_) => false,
     }
-    Ok(())
+}
+
+/// Whether a text is refused at the column that a row tells.
+fn is_refused(row: &str, line: &Line) -> bool {
+    let (told, text) = split(row, ' ');
+    told.parse::<u32>().ok() == Some(column(text.as_bytes(), line))
+}
+
+/// Events are read and written back, and others refused.
+fn try_events(rt: &impl Abort, line: &Line, out: &mut TextBuffer) {
+    for text in EVENTS.split('\n') {
+        assert!(rt; is_written_back(text.as_bytes(), line, out), "{text}");
+    }
+    for row in REFUSED.split('\n') {
+        assert!(rt; is_refused(row, line), "{row}");
+    }
 }
 
 /// The trains 7 and 8.
@@ -232,15 +219,17 @@ fn column_of(line: &Line, moves: usize, rest: &[u8]) -> u32 {
     column(text.as_slice(), line)
 }
 
+/// Tries texts on a line.
+fn try_texts(rt: &impl Abort, line: &Line, out: &mut TextBuffer) {
+    try_events(rt, line, out);
+    try_lines(rt, line);
+    assert!(rt; column_of(line, 300, b"") == 12 && column_of(line, 1023, b" 7") == 4097);
+}
+
 #[test]
 fn events_are_read_and_written_back(rt: HostRuntime) -> Result<(), AllocError> {
-    let Ok(line) = line_of(rt.alloc()) else {
-        panic!(rt; "no line");
-    };
-    for row in REFUSED.split('\n') {
-        try_refused(&rt, row, &line);
-    }
-    try_lines(&rt, &line);
-    assert!(rt; column_of(&line, 300, b"") == 12 && column_of(&line, 1023, b" 7") == 4097);
-    try_events(&rt, &line)
+    let mut out = TextBuffer::new(rt.alloc(), 100)?;
+    let line = line_of(&rt, LINE);
+    try_texts(&rt, &line, &mut out);
+    Ok(())
 }

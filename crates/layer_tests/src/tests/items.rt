@@ -1,9 +1,9 @@
 //! Items as text, and the columns of texts that are none.
 
 use crate::rows::split;
-use edge_io::memory::VecSink;
+use edge_io::buffer::TextBuffer;
 use line_text::{read_line_item, write_item};
-use std::alloc::{AllocError, Global};
+use std::alloc::AllocError;
 use std::process::Abort;
 
 /// An item of each form, and the shortest and the longest of those with lists.
@@ -67,41 +67,42 @@ fn column(text: &[u8]) -> u32 {
 }
 
 /// Whether a text is an item, which is written as that text.
-fn is_written_back(alloc: Global, text: &[u8]) -> Result<bool, AllocError> {
-    let mut sink = VecSink::new(alloc, 100, &[])?;
-    let Ok(item) = read_line_item(text) else {
-        return Ok(false);
-    };
-    let written = write_item(&item, &mut sink).is_ok();
-    Ok(written && sink.bytes() == text)
+fn is_written_back(text: &[u8], out: &mut TextBuffer) -> bool {
+    match read_line_item(text) {
+        Ok(item) => {
+            out.clear();
+            write_item(&item, out).is_ok() && out.as_slice() == text
+        }
+        Err(_) => false,
+    }
 }
 
-/// Tries a row of a column and a text.
-fn try_refused(rt: &impl Abort, row: &str) {
+/// Whether a text is refused at the column that a row tells.
+fn is_refused(row: &str) -> bool {
     let (told, text) = split(row, ' ');
-    let holds = told.parse::<u32>().ok() == Some(column(text.as_bytes()));
-    assert!(rt; holds, "{row}");
+    told.parse::<u32>().ok() == Some(column(text.as_bytes()))
+}
+
+/// Items are read and written back.
+fn try_items(rt: &impl Abort, out: &mut TextBuffer) {
+    for text in ITEMS.split('\n') {
+        assert!(rt; is_written_back(text.as_bytes(), out), "{text}");
+    }
 }
 
 #[test]
 fn items_are_read_and_written_back(rt: HostRuntime) -> Result<(), AllocError> {
-    for text in ITEMS.split('\n') {
-        let holds = is_written_back(rt.alloc(), text.as_bytes())?;
-        assert!(rt; holds, "{text}");
-    }
+    let mut out = TextBuffer::new(rt.alloc(), 100)?;
+    try_items(&rt, &mut out);
     Ok(())
 }
 
 #[test]
 fn others_are_refused_at_their_columns(rt: HostRuntime) {
     for row in REFUSED.split('\n') {
-        try_refused(&rt, row);
+        assert!(rt; is_refused(row), "{row}");
     }
-}
-
-#[test]
-fn a_long_text_is_refused(rt: HostRuntime) {
-    let mut text = [b' '; 4097];
-    text[..6].copy_from_slice(b"zone 1");
-    assert!(rt; column(&text) == 7);
+    let mut long = [b' '; 4097];
+    long[..6].copy_from_slice(b"zone 1");
+    assert!(rt; column(&long) == 7);
 }

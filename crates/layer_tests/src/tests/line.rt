@@ -1,27 +1,14 @@
-//! Three segments in one zone: 1 of 1 m after a portal, 2 of 500 mm, and 3 of 700 mm, passed down to a buffer.
-ghost use Rattle.std.specs.Prelude.{◌≡◌, true, IfOk};
+//! Lines from the text of their items, and the copy of one.
+ghost use Rattle.std.specs.Prelude.{◌≡◌, true};
 ghost use Rattle.definitions.specs.Rules.{is_line};
 
-use arrayvec::ArrayVec;
-use braking_table::Brake;
-use line_map::{End, Item, Line, LineBuilder, LineFault};
+use line_map::{Line, LineBuilder};
+use line_text::read_line_item;
 use std::alloc::Global;
-use track_points::{Dir, DirSeg, Path, SegId, ZoneId};
+use std::process::Abort;
+use track_points::{Dir, DirSeg, SegId, ZoneId};
 
-fn plus(segment: u64) -> End {
-    End {
-        segment,
-        dir: Dir::Up,
-    }
-}
-
-fn minus(segment: u64) -> End {
-    End {
-        segment,
-        dir: Dir::Down,
-    }
-}
-
+/// A step up on a segment.
 pub fn up(seg: u16) -> DirSeg {
     DirSeg {
         seg: SegId(seg),
@@ -29,100 +16,52 @@ pub fn up(seg: u16) -> DirSeg {
     }
 }
 
-pub fn down(seg: u16) -> DirSeg {
-    DirSeg {
-        seg: SegId(seg),
-        dir: Dir::Down,
+/// Whether a text line is an item, and is added.
+fn adds(builder: &mut LineBuilder, text: &str) -> bool {
+    let Ok(said) = read_line_item(text.as_bytes()) else {
+        return false;
+    };
+    match said.built() {
+        Some(item) => builder.add(&item).is_ok(),
+        None => false,
     }
 }
 
-pub fn line_of(alloc: Global) -> Result<Line, LineFault>
-    ensures { IfOk result (λ line. is_line line ≡ true) }
+/// The line of the items that stand in a text.
+pub fn line_of(rt: &(impl Abort + Alloc<A = Global>), text: &str) -> Line
+    ensures { is_line result ≡ true }
 {
-    let items = [
-        Item::Zone(3),
-        Item::Segment(1, 3, 1000),
-        Item::Segment(2, 3, 500),
-        Item::Segment(3, 3, 700),
-        Item::Joint(plus(1), minus(2)),
-        Item::Joint(plus(2), plus(3)),
-        Item::Portal(minus(1)),
-        Item::Buffer(minus(3)),
-    ];
-    let mut builder = LineBuilder::new(alloc).map_err(|_| LineFault::Memory)?;
-    for item in &items {
-        builder.add(item)?;
-    }
-    builder.finish()
-}
-
-pub fn steps_of(steps: &[DirSeg]) -> ArrayVec<DirSeg, 24> {
-    let mut out = ArrayVec::new();
-    let _ = out.try_extend_from_slice(steps);
-    out
-}
-
-pub fn path(steps: &[DirSeg], from: u32, to: u32) -> Path {
-    Path {
-        steps: steps_of(steps),
-        from,
-        to,
-    }
-}
-
-/// The length of a segment in mm and its zone; no segment that is not declared has one.
-fn declared(line: &Line, seg: u16) -> [u32; 2] {
-    let s = SegId(seg);
-    if line.has_segment(s) {
-        [line.seg_len(s), u32::from(line.zone_of(s).0)]
-    } else {
-        [0, 0]
-    }
-}
-
-/// The k-th zone and the k-th segment by ascending id, from 0; 0 where there are not more than k.
-fn listed(line: &Line, k: usize) -> [u32; 2] {
-    let zone = match line.zone(k) {
-        Some(zone) => u32::from(zone.0),
-        None => 0,
+    let Ok(mut builder) = LineBuilder::new(rt.alloc()) else {
+        panic!(rt; "want of memory");
     };
-    let segment = match line.segment(k) {
-        Some(segment) => u32::from(segment.0),
-        None => 0,
-    };
-    [zone, segment]
+    for item in text.split('\n') {
+        assert!(rt; adds(&mut builder, item), "{item}");
+    }
+    match builder.finish() {
+        Ok(line) => line,
+        Err(_) => panic!(rt; "the line does not finish"),
+    }
 }
 
-/// Whether a brake is that of a line in which no item says one.
-fn is_default(brake: Brake) -> bool {
-    brake.ticks == 50 && brake.runaway == 0 && brake.rate == 1000
-}
-
-/// Whether the line tells of its segments and its zone what the items say, and its brake.
-fn tells_all(line: &Line) -> bool {
-    declared(line, 1) == [1000, 3]
-        && declared(line, 2) == [500, 3]
-        && declared(line, 3) == [700, 3]
-        && declared(line, 4) == [0, 0]
-        && listed(line, 0) == [3, 1]
-        && listed(line, 1) == [0, 2]
-        && listed(line, 2) == [0, 3]
-        && listed(line, 3) == [0, 0]
-        && line.silent() == 5000
-        && is_default(line.brake())
-        && line.follows(up(2), down(3))
-        && !line.follows(up(1), down(3))
-        && line.begins_at_portal(up(1))
+/// Whether a line tells of its segments and its zone what its two items say.
+fn tells(line: &Line) -> bool {
+    line.has_zone(ZoneId(3))
+        && line.has_segment(SegId(7))
+        && line.seg_len(SegId(7)) == 500
+        && line.zone_of(SegId(7)) == ZoneId(3)
+        && !line.has_segment(SegId(3))
+        && line.silent() == 4000
+        && line.brake().rate == 900
 }
 
 #[test]
 fn a_copy_tells_what_the_line_tells(rt: HostRuntime) {
-    let Ok(line) = line_of(rt.alloc()) else {
-        panic!(rt; "no line");
-    };
-    let Ok(copy) = line.copy(rt.alloc()) else {
-        panic!(rt; "want of memory");
-    };
-    assert!(rt; tells_all(&line));
-    assert!(rt; tells_all(&copy));
+    let line = line_of(
+        &rt,
+        "zone 3\nsegment 7 3 500\nbuffer 7-\nbuffer 7+\nbrake 50 0 900\nsilent 4000",
+    );
+    match line.copy(rt.alloc()) {
+        Ok(copy) => assert!(rt; tells(&line) && tells(&copy)),
+        Err(_) => panic!(rt; "want of memory"),
+    }
 }

@@ -4,7 +4,7 @@ use definitions::document::Ending;
 use definitions::outcome::{
     AnswerWord, FrameFault, Obstacle, Outcome, Refusal, ShortRefusal, SwitchObstacle,
 };
-use edge_io::memory::VecSink;
+use edge_io::buffer::TextBuffer;
 use outcome_text::{write_ending, write_outcome};
 use std::alloc::AllocError;
 use track_points::{BlockId, Dir, DirSeg, Position, SectionId, SegId, SwitchId, TrainId, ZoneId};
@@ -148,24 +148,26 @@ limit messages 998000
 unbuilt 5
 ";
 
-#[test]
-fn outcomes_are_written(rt: HostRuntime) -> Result<(), AllocError> {
-    let mut sink = VecSink::new(rt.alloc(), 2000, &[])?;
+/// Whether the outcomes are written as their lines.
+fn has_outcomes(out: &mut TextBuffer) -> bool {
     for outcome in OUTCOMES {
-        let written = write_outcome(outcome, &mut sink).is_ok();
-        assert!(rt; written);
+        let _ = write_outcome(outcome, out);
     }
-    assert!(rt; sink.bytes() == LINES.as_bytes());
-    Ok(())
+    out.as_slice() == LINES.as_bytes()
+}
+
+/// Whether the endings are written as their lines.
+fn has_endings(out: &mut TextBuffer) -> bool {
+    out.clear();
+    for ending in ENDINGS {
+        let _ = write_ending(ending, out);
+    }
+    out.as_slice() == LAST_LINES.as_bytes()
 }
 
 #[test]
-fn endings_are_written(rt: HostRuntime) -> Result<(), AllocError> {
-    let mut sink = VecSink::new(rt.alloc(), 2000, &[])?;
-    for ending in ENDINGS {
-        let written = write_ending(ending, &mut sink).is_ok();
-        assert!(rt; written);
-    }
-    assert!(rt; sink.bytes() == LAST_LINES.as_bytes());
+fn outcomes_and_endings_are_written(rt: HostRuntime) -> Result<(), AllocError> {
+    let mut out = TextBuffer::new(rt.alloc(), 1000)?;
+    assert!(rt; has_outcomes(&mut out) && has_endings(&mut out));
     Ok(())
 }

@@ -69,7 +69,7 @@ fn read(rt: &impl Abort, alloc: Global, reading: &mut Reading, room: &mut Room, 
 }
 
 /// The system after a document's text lines.
-fn system_behind(rt: &impl Abort, alloc: Global, texts: &[&str]) -> System {
+pub fn system_behind(rt: &impl Abort, alloc: Global, texts: &[&str]) -> System {
     let Ok(mut room) = Room::new(alloc) else {
         panic!(rt; "want of memory");
     };

@@ -1,5 +1,5 @@
 use Rattle.zone_state.specs.Zone.{IsZoneOn}
-use Rattle.system_tests.proofs.zone.try_rows.Given as goal
+use Rattle.layer_tests.proofs.tests.zone.try_rows.Given as goal
 
 abbrev pub invariant-loop-row : goal.invariant-loop-row
 invariant-loop-row g l = IsZoneOn l.line l.zone

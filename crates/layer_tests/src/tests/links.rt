@@ -1,66 +1,28 @@
 //! What a system tells of its links, and an event that goes by itself.
-ghost use Rattle.std.specs.Prelude.{◌≡◌, ◌≤◌, ◌∷◌, [], true, false, count_by, IfOk};
-ghost use Rattle.definitions.specs.Rules.{is_any_zone, is_line};
+ghost use Rattle.std.specs.Prelude.{◌≡◌, ◌∷◌, [], false};
 ghost use Rattle.definitions.specs.Story.{Story};
 ghost use Rattle.definitions.specs.Track as track;
 ghost use Rattle.definitions.specs.Trace.{stands_for};
 
+use crate::tests::system::system_behind;
 use definitions::event::{Event, Kind};
 use definitions::outcome::Outcome;
-use line_map::{End, Item, Line, LineBuilder, LineFault};
 use line_system::{Answer, Premise, System};
 use msg_codec::Outs;
 use std::alloc::{AllocError, Global};
 use std::process::Abort;
 use track_points::{Dir, DirSeg, SegId, TrainId, ZoneId};
 
-/// Adds an item that is no zone.
-#[tactic(auto, using(crate::proofs::One_zone::one_more))]
-fn add(builder: &mut LineBuilder, item: &Item) -> Result<(), LineFault>
-    requires other { is_any_zone item.now ≡ false }
-    requires one { count_by is_any_zone builder.old ≤ 1 }
-    ensures { count_by is_any_zone builder.new ≤ 1 }
-{
-    builder.add(item)
-}
-
-fn end(segment: u64, dir: Dir) -> End {
-    End { segment, dir }
-}
-
-/// Adds two segments of zone 1, of 100,000 and 300,000 mm, with a portal at each end, where there is memory.
-fn fill(builder: &mut LineBuilder) -> Result<(), LineFault>
-    requires { builder.old ≡ [] }
-    ensures { count_by is_any_zone builder.new ≤ 1 }
-{
-    builder.add(&Item::Zone(1))?;
-    add(builder, &Item::Segment(1, 1, 100_000))?;
-    add(builder, &Item::Segment(2, 1, 300_000))?;
-    add(builder, &Item::Portal(end(1, Dir::Down)))?;
-    add(builder, &Item::Joint(end(1, Dir::Up), end(2, Dir::Down)))?;
-    add(builder, &Item::Portal(end(2, Dir::Up)))
-}
-
-/// The line of these segments.
-fn line_of(alloc: Global) -> Result<Line, LineFault>
-    ensures valid { IfOk result (λ line. is_line line ≡ true) }
-    ensures one { IfOk result (λ line. count_by is_any_zone line ≤ 1) }
-{
-    let mut builder = LineBuilder::new(alloc).map_err(|_| LineFault::Memory)?;
-    fill(&mut builder)?;
-    builder.finish()
-}
-
-/// The system of this line.
-fn system_of(rt: &impl Abort, alloc: Global) -> System {
-    let Ok(line) = line_of(alloc) else {
-        panic!(rt; "no line");
-    };
-    let Ok(system) = System::start(alloc, line) else {
-        panic!(rt; "want of memory");
-    };
-    system
-}
+/// Two segments of zone 1, with a portal at each end.
+const LINE: &[&str] = &[
+    "zone 1",
+    "segment 1 1 100000",
+    "segment 2 1 300000",
+    "portal 1-",
+    "joint 1+ 2-",
+    "portal 2+",
+    "script",
+];
 
 /// Whether an event stands for others.
 fn is_delivery(event: &Event) -> bool
@@ -193,7 +155,7 @@ fn try_links(rt: &(impl Abort + Alloc<A = Global>), system: &mut System) -> Resu
 
 #[test]
 fn links_tell_what_went_out_and_what_waits(rt: HostRuntime) -> Result<(), AllocError> {
-    let mut system = system_of(&rt, rt.alloc());
+    let mut system = system_behind(&rt, rt.alloc(), LINE);
     let tried = try_links(&rt, &mut system);
     system.release();
     tried
