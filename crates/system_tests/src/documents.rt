@@ -182,18 +182,19 @@ impl Rows {
             "-" => self.give("run", rest),
             "*" => self.give("check", rest),
             "$" => self.give(counted(rest).1, rest),
+            "/" => {}
             _ => return self.add_text(alloc, line),
         }
         Ok(())
     }
 
-    /// A table.
-    fn table(
+    /// The rows of tables.
+    fn try_rows(
         &mut self,
         rt: &(impl Abort + Alloc<A = Global>),
-        table: &'static str,
+        tables: &'static str,
     ) -> Result<(), AllocError> {
-        for line in table.split('\n') {
+        for line in tables.split('\n') {
             if line.starts_with("= ") {
                 self.try_row(rt)?;
             } else {
@@ -213,9 +214,7 @@ fn documents_of_the_tables(rt: HostRuntime) -> Result<(), AllocError> {
         text: Vec::new(rt.alloc()),
         tried: 0,
     };
-    for table in tables() {
-        rows.table(&rt, table)?;
-    }
+    rows.try_rows(&rt, tables())?;
     assert!(rt; rows.tried == ROWS);
     Ok(())
 }

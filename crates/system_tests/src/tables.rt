@@ -1,15 +1,16 @@
 //! Worked documents and what the program writes for each, as tables of text.
 //!
 //! A row is a line `= NAME`, the text lines of the document, a line `- STATUS` of a run, `* STATUS` of a check or
-//! `$ STATUS WORDS` of a call with these words, and the lines that are written. In front of that line may stand a line
+//! `$ STATUS WORDS` of a call with these words, and the lines that are written. In front of the line of the call may stand a line
 //! `! READ WRITE ROOM OPEN`: the numbers, from 1, of the source's call and of the sink's that fail, or 0; the bytes that the
-//! sink takes, else 1000; and 1 where the document's last text line has no LF. On both sides stand for other lines:
+//! sink takes, else 1000; and 1 where the document's last text line has no LF. A line that begins with `/` is a remark. On both
+//! sides stand for other lines:
 //!
 //! - `+ PART`: the text lines of that part.
 //! - `@ COUNT TEXT`: the text so many times, with 1, 2 and so on in place of a `%`.
 //! - `~ SIZE TEXT`: the text and its last byte again, up to so many bytes.
 //!
-//! One literal for a table costs the prover less than half a second a kB; a row in the form of a struct costs half a second.
+//! One literal for all rows costs the prover some six seconds; each row in the form of a struct would cost half a second.
 
 /// The parts, each a line `: NAME` and its text lines:
 ///
@@ -167,8 +168,8 @@ take 1 0 4",
     ),
 ];
 
-/// What a run and other words give.
-const WORKED: &str = "
+/// The tables, one behind the other.
+const TABLES: &str = "/ What a run and other words give.
 = one train
 + four segments
 + asks for entry
@@ -230,10 +231,8 @@ take 1 0 4
 entry 1 7 1
 answer 7 1 taken
 grant 1 7 2 3+ 300000 1
-premise 20 P6";
-
-/// Each rule of the line.
-const RULES: &str = "
+premise 20 P6
+/ Each rule of the line.
 = rule 1 at the word
 script
 - 3
@@ -432,10 +431,8 @@ line 2 column 18
 zone 1
 switch 0 9+ 9- 9- 0
 - 10
-unbuilt 2";
-
-/// Text lines that are no item, each refused at its column; the word of a race is none.
-const ITEMS: &str = "
+unbuilt 2
+/ Text lines that are no item, each refused at its column; the word of a race is none.
 = refused at column 1
 Zone 1
 - 3
@@ -543,10 +540,8 @@ line 1 column 9
 = refused at column 15
 silent 3600000+
 - 3
-line 1 column 15";
-
-/// Text lines and their forms.
-const TEXTS: &str = "
+line 1 column 15
+/ Text lines and their forms.
 = comments and empty lines
 # a line
 
@@ -668,10 +663,8 @@ script
 train 7 60000 2000 20000 eq
 entry 7 2+
 - 4
-script 13 column 9";
-
-/// What is taken, asked and refused.
-const MESSAGES: &str = "
+script 13 column 9
+/ What is taken, asked and refused.
 = an ask taken twice
 + four segments
 + asks for entry
@@ -799,10 +792,8 @@ entry 7 1+
 take 1 0 1
 - 0
 noentry 1 7 toolong
-done 3";
-
-/// Several trains: what is held for one stops another.
-const SEVERAL: &str = "
+done 3
+/ Several trains: what is held for one stops another.
 = an entry over a held portal segment
 + four segments
 + trains
@@ -1103,10 +1094,8 @@ entry 1 8 1
 answer 7 1 taken
 answer 8 1 taken
 deny 1 8 10
-done 15";
-
-/// Trains that move: growth, how far they reach, and what stops the next one.
-const MOTION: &str = "
+done 15
+/ Trains that move: growth, how far they reach, and what stops the next one.
 = a train follows another up to its rear
 + four segments
 + asks for entry
@@ -1426,10 +1415,8 @@ entry 1 9 1
 answer 9 1 taken
 grant 1 9 2 2+ 20000 3
 grant 1 8 3 2+ 200000 3
-done 35";
-
-/// What breaks the premises on reports, speed and limits.
-const PREMISES: &str = "
+done 35
+/ What breaks the premises on reports, speed and limits.
 = a step faster than the train
 + four segments
 + asks for entry
@@ -1602,10 +1589,8 @@ step 1000 7 1
 entry 1 7 1
 answer 7 1 taken
 grant 1 7 2 3+ 300000 1
-premise 21 P4";
-
-/// Reports: what they leave, and what is free behind the rear; Now and the Time.
-const REPORTS: &str = "
+premise 21 P4
+/ Reports: what they leave, and what is free behind the rear; Now and the Time.
 = reports in reverse order
 + four segments
 + asks for entry
@@ -1922,10 +1907,8 @@ entry 1 7 1
 answer 7 1 taken
 answer 7 1 taken
 place 1 7 1+ 0 1+ 70000
-done 11";
-
-/// Silence.
-const SILENCE: &str = "
+done 11
+/ Silence.
 = silent one ms past the time, not at it
 + four segments
 + silent after 10
@@ -2089,10 +2072,8 @@ entry 1 7 1
 answer 7 1 taken
 grant 1 7 2 2+ 100000 1
 alarm silent 1 7
-done 14";
-
-/// Deliveries.
-const DELIVERIES: &str = "
+done 14
+/ Deliveries.
 = deliveries of nothing
 + four segments
 script
@@ -2135,10 +2116,8 @@ deliver 1
 - 0
 entry 1 7 1
 noentry 1 7 known
-done 5";
-
-/// Fields out of their ranges and things that are not declared.
-const FORMS: &str = "
+done 5
+/ Fields out of their ranges and things that are not declared.
 = a step of no time
 + four segments
 + asks for entry
@@ -2266,10 +2245,8 @@ script 18 column 9
 script
 silent 10
 - 4
-script 12 column 2";
-
-/// Bytes that are no frame, markers, and messages that are lost.
-const NOISE: &str = "
+script 12 column 2
+/ Bytes that are no frame, markers, and messages that are lost.
 = cut frame as noise is short
 + four segments
 script
@@ -2396,10 +2373,9 @@ done 2
 script
 round 0
 - 4
-script 12 column 7";
-
-/// Documents that are checked, and what stands in a check as in a run.
-const CHECKS: &str = "= check drops comments and blank lines
+script 12 column 7
+/ Documents that are checked, and what stands in a check as in a run.
+= check drops comments and blank lines
 # a line of one segment
 
 zone 1
@@ -2556,10 +2532,8 @@ script 12 column 8
 script
 take 2 2 1
 - 4
-script 12 column 6";
-
-/// Segments that are closed and opened again.
-const CLOSURES: &str = "
+script 12 column 6
+/ Segments that are closed and opened again.
 = a closed segment ahead
 + four segments
 + asks for entry
@@ -2730,10 +2704,8 @@ answer 7 2 taken
 grant 1 7 3 2+ 300000 1
 answer 7 3 taken
 answer 7 3 taken
-done 15";
-
-/// Ways that orders shorten.
-const SHRINKS: &str = "
+done 15
+/ Ways that orders shorten.
 = a short order at the greatest front
 + four segments
 + asks for entry
@@ -2987,12 +2959,11 @@ deny 1 8 3
 answer 7 2 taken
 answer 7 3 taken
 grant 1 8 2 3- 200000 3
-done 24";
-
-/// Calls of the document of one train: first behind a comment by which the first piece of the input, of 65,536 bytes, ends
-/// somewhere in it, where the sink is called once for each of the two pieces and once at the end; then those that are no run,
-/// and those whose source or sink fails.
-const CALLS: &str = "= all in the second piece
+done 24
+/ Calls of the document of one train: first behind a comment by which the first piece of the input, of 65,536 bytes, ends
+/ somewhere in it, where the sink is called once for each of the two pieces and once at the end; then those that are no run,
+/ and those whose source or sink fails.
+= all in the second piece
 ~ 65535 #
 + four segments
 + asks for entry
@@ -3202,15 +3173,14 @@ answer 7 1 taken
 - 0
 entry 1 7 1
 @ 9999 noentry 1 7 known
-done 10002";
-
-/// Documents at their limits. A comment may fill the input up to its limit, and no byte more; an item of 4,097 bytes is refused
-/// before its end. A line may have 512 segments, and no more: text line 1 is the zone, text line 514 the segment too many. 256
-/// trains may be declared, and no more: the first of them is text line 12, the 257th would be text line 268; a field that is
-/// refused comes first, as that of a train that is declared already or of an error as great as the length. A check has 200,000
-/// events at most, and so has the history of a run, in which a delivery is its takes: of two that are due the first alone may
-/// have room.
-const LIMITS: &str = "= the input is full
+done 10002
+/ Documents at their limits. A comment may fill the input up to its limit, and no byte more; an item of 4,097 bytes is refused
+/ before its end. A line may have 512 segments, and no more: text line 1 is the zone, text line 514 the segment too many. 256
+/ trains may be declared, and no more: the first of them is text line 12, the 257th would be text line 268; a field that is
+/ refused comes first, as that of a train that is declared already or of an error as great as the length. A check has 200,000
+/ events at most, and so has the history of a run, in which a delivery is its takes: of two that are due the first alone may
+/ have room.
+= the input is full
 ~ 67108864 #
 ! 0 0 1000 1
 - 3
@@ -3310,11 +3280,6 @@ script
 @ 200000 step 1
 limit events 200000";
 
-const TABLES: &[&str] = &[
-    WORKED, RULES, ITEMS, TEXTS, MESSAGES, SEVERAL, MOTION, PREMISES, REPORTS, SILENCE, DELIVERIES,
-    FORMS, NOISE, CHECKS, CLOSURES, SHRINKS, CALLS, LIMITS,
-];
-
 /// How many rows stand in them.
 pub const ROWS: u32 = 296;
 
@@ -3324,6 +3289,6 @@ pub fn parts() -> &'static [(&'static str, &'static str)] {
 }
 
 /// All tables.
-pub fn tables() -> &'static [&'static str] {
+pub fn tables() -> &'static str {
     TABLES
 }
