@@ -7,7 +7,7 @@ ghost use Rattle.authority_ledger.specs.Keeps.{Keeps};
 use thiserror::Error;
 
 /// An authority that ends before the longest does, and that is not answered.
-#[derive(Clone, Copy, PartialEq, Eq)]
+#[derive(Clone, Copy)]
 pub struct Shrink {
     /// Its number.
     pub number: u32,
@@ -18,7 +18,7 @@ pub struct Shrink {
 /// The numbers of one train's authorities. They are numbered from 1. At most one shrink is unanswered, and until it is
 /// answered nothing is issued. Beside it its holder keeps an end: of a longer authority once it is issued, of a shrink once
 /// it is taken, else the same. That is the greatest end which may still count.
-#[derive(Clone, Copy, PartialEq, Eq)]
+#[derive(Clone, Copy)]
 pub struct Ledger {
     /// The last number issued.
     last: u32,
@@ -29,12 +29,12 @@ pub struct Ledger {
 }
 
 /// Nothing is issued, as the shrink of this number is not answered.
-#[derive(Clone, Copy, PartialEq, Eq, Debug, Error)]
+#[derive(Clone, Copy, Debug, Error)]
 #[error("the shrink of number {0} is not answered")]
 pub struct Pending(pub u32);
 
 /// What an answer comes to.
-#[derive(Clone, Copy, PartialEq, Eq)]
+#[derive(Clone, Copy)]
 pub enum Answered {
     /// It says nothing new: a number that is no greater was answered, or its number was not issued.
     Old,

@@ -7,7 +7,7 @@ use std::marker::Model;
 use thiserror::Error;
 
 /// How a train stops: at first its speed rises for some ticks of 10 ms, and then it falls to 0.
-#[derive(Clone, Copy, PartialEq, Eq)]
+#[derive(Clone, Copy)]
 pub struct Brake {
     /// How many ticks of 10 ms the speed rises for.
     pub ticks: u16,
@@ -18,7 +18,7 @@ pub struct Brake {
 }
 
 /// Why a brake has no table.
-#[derive(Clone, Copy, PartialEq, Eq, Debug, Error)]
+#[derive(Clone, Copy, Debug, Error)]
 pub enum TableFault {
     /// There is no memory for the table. Today's table takes none, so this does not come.
     #[error("no memory for the table")]

@@ -3,7 +3,7 @@
 use thiserror::Error;
 
 /// A text line is none of its grammar.
-#[derive(Clone, Copy, PartialEq, Eq, Debug, Error)]
+#[derive(Clone, Copy, Debug, Error)]
 #[error("the text line is none of its grammar")]
 pub struct TextFault {
     /// The place, from 1, of the first byte at which no text of the grammar continues; the end of the line counts as a byte. It

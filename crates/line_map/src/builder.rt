@@ -13,7 +13,7 @@ use std::marker::Model;
 use thiserror::Error;
 
 /// Why a line is refused.
-#[derive(Clone, Copy, PartialEq, Eq, Debug, Error)]
+#[derive(Clone, Copy, Debug, Error)]
 pub enum LineFault {
     /// There is no memory for one more item.
     #[error("no memory for the line")]

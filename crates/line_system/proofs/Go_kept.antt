@@ -19,7 +19,7 @@ use Rattle.plain_state.specs.Plain.{Plain, is_link, takes_but, plain_effect}
 use Rattle.plain_state.specs.Admits.{plain_built, plain_too_many, plain_premise}
 use Rattle.world_sim.specs.World.{StepFits, IsBuilt, IsWorldOn}
 use Rattle.zone_state.specs.Zone.{ZoneKept, IsZoneOn}
-use Rattle.invariant_laws.proofs.Invariant.{Invariant}
+use Rattle.journey_laws.proofs.Invariant.{Invariant}
 use Rattle.step_laws.proofs.Invariant_story.{invariant_story}
 use Rattle.refinement_laws.proofs.Refines_next.{built_is, too_many_is, premise_is, effect_is, refines_next, issued_fit}
 use Rattle.line_system.specs.History.{History}
@@ -42,7 +42,7 @@ use Rattle.list_laws.proofs.By_test.{by_test}
 use Rattle.line_system.proofs.Sent_few.{sent_few}
 use Rattle.plain_state.specs.Refinement.{Refines}
 use Rattle.refinement_laws.proofs.Deliveries_zone.{deliveries_zone, deliveries_world}
-use Rattle.invariant_laws.proofs.Zone_only.{zone_only}
+use Rattle.journey_laws.proofs.Zone_only.{zone_only}
 
 sounds : (line : Line) → IsLineOfOneZone line → (t : ℕ) → (ts : List Event) → Kept line ts → Invariant line t (story_of line ts)
 sounds line l t ts h = invariant_story line t ts l h

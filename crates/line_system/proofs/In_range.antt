@@ -8,7 +8,7 @@ use Rattle.definitions.specs.Track.{Line}
 use Rattle.definitions.specs.Story.{Story, sent}
 use Rattle.definitions.specs.World.{Facts, facts_or, facts_of, is_declared, long_of}
 use Rattle.event_laws.proofs.Issued_all.{issued_all}
-use Rattle.invariant_laws.proofs.Invariant.{Invariant, EntryIs, RequestTrue}
+use Rattle.journey_laws.proofs.Invariant.{Invariant, EntryIs, RequestTrue}
 use Rattle.zone_state.specs.Zone.{InRange}
 
 long_is : (t : ℕ) (s : Story) (f : Facts) → facts_of t s ≡ Some f → (is_declared t s ≡ true) × (long_of t s ≡ f.long)

@@ -17,7 +17,7 @@ use Rattle.definitions.specs.Zones.{zone_id}
 use Rattle.plain_state.specs.Plain.{Plain, is_link, by_world, by_zone, taken_next, plain_next}
 use Rattle.plain_state.specs.Refinement.{ZoneRefines, Refines}
 use Rattle.refinement_laws.proofs.The_zone.{zone_positive, link_to_zone, link_to_world, the_zone, each_zone}
-use Rattle.invariant_laws.proofs.Zone_only.{actor_zone}
+use Rattle.journey_laws.proofs.Zone_only.{actor_zone}
 use Rattle.line_state.specs.State.{Parts, links_of, plain_of, world_moved, zone_moved, parts_taken, parts_next}
 
 -- its number

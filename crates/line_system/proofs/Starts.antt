@@ -19,7 +19,7 @@ use Rattle.line_state.specs.Losses.{lost_at}
 use Rattle.line_state.specs.State.{Tally, Parts, IsStart}
 use Rattle.line_map.specs.Order.{count_below, IsZoneAt}
 use Rattle.line_map.proofs.Segment_ok.{zone_ok}
-use Rattle.invariant_laws.proofs.Zone_only.{zone_only}
+use Rattle.journey_laws.proofs.Zone_only.{zone_only}
 use Rattle.refinement_laws.proofs.Refines_step.{refines_start}
 use Rattle.line_system.specs.Kept.{KeepsLost, IsKept}
 use Rattle.line_system.proofs.Parts_refined.{same_refined}

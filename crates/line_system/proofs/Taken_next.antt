@@ -12,7 +12,7 @@ use Rattle.definitions.specs.Steps.{effects, taken_by, taken_most}
 use Rattle.definitions.specs.Safe.{IsLineOfOneZone}
 use Rattle.definitions.specs.Zones.{zone_id}
 use Rattle.event_laws.proofs.By_does.{effect_event}
-use Rattle.invariant_laws.proofs.Zone_only.{zone_only}
+use Rattle.journey_laws.proofs.Zone_only.{zone_only}
 use Rattle.line_state.specs.State.{Tally, taken_with, lost_with, tally_behind}
 
 pub actor_is : (line : Line) (a : ℕ) → IsLineOfOneZone line → is_actor line a ≡ true → nat_eq a 0 ≡ false → a ≡ zone_id line

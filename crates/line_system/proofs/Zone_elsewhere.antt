@@ -24,7 +24,7 @@ use Rattle.event_laws.proofs.Issued_all.{AtMostOne, says_nothing, says_one}
 use Rattle.event_laws.proofs.Zone_issues.{Grants, Replies, world_issues, zone_issues}
 use Rattle.event_laws.proofs.By_does.{noise_issues}
 use Rattle.way_laws.proofs.Line_builds.{portal_on_line}
-use Rattle.invariant_laws.proofs.Zone_only.{zone_only, zone_is, actor_zone}
+use Rattle.journey_laws.proofs.Zone_only.{zone_only, zone_is, actor_zone}
 use Rattle.refinement_laws.proofs.The_zone.{link_to_zone}
 use Rattle.line_system.proofs.Taken_next.{actor_is}
 

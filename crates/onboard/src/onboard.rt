@@ -24,7 +24,7 @@ pub struct Onboard {
 }
 
 /// What a train answers to an authority.
-#[derive(Clone, Copy, PartialEq, Eq)]
+#[derive(Clone, Copy)]
 pub enum Verdict {
     /// It takes it: its end is the limit.
     Taken,

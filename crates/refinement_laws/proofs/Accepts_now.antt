@@ -23,9 +23,9 @@ use Rattle.onboard.specs.declared.onboard.Onboard.{Onboard}
 use Rattle.plain_state.specs.World.{find_train, last_speed, takes_at, takes_found}
 use Rattle.plain_state.specs.Plain.{Plain}
 use Rattle.plain_state.specs.Refinement.{head_of, pace_of, onboard_of, world_of, Refines}
-use Rattle.invariant_laws.proofs.Invariant.{path_fits, AuthorityIs, Invariant}
-use Rattle.invariant_laws.proofs.One_route.{OneRoute, one_route, on_controls}
-use Rattle.invariant_laws.proofs.Head_on.{head_place}
+use Rattle.journey_laws.proofs.Invariant.{path_fits, AuthorityIs, Invariant}
+use Rattle.journey_laws.proofs.One_route.{OneRoute, one_route, on_controls}
+use Rattle.journey_laws.proofs.Head_on.{head_place}
 use Rattle.refinement_laws.proofs.Pace_now.{PaceIs}
 use Rattle.refinement_laws.proofs.Same_place.{same_place}
 use Rattle.refinement_laws.proofs.Decides_now.{decides}

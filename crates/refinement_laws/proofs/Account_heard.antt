@@ -21,10 +21,10 @@ use Rattle.definitions.specs.Zones.{zone_id}
 use Rattle.authority_ledger.specs.Ledger.{answer_of, after_answer}
 use Rattle.plain_state.specs.Zone.{checked}
 use Rattle.event_laws.proofs.Still_world.{journey_still}
-use Rattle.invariant_laws.proofs.Invariant.{Invariant}
-use Rattle.front_laws.proofs.Fronts_numbers.{takes_by, fronts_numbers, fronts_unused}
-use Rattle.front_laws.proofs.Account_goes.{account_taken}
-use Rattle.front_laws.proofs.Taken_counts.{answers}
+use Rattle.journey_laws.proofs.Invariant.{Invariant}
+use Rattle.step_laws.proofs.Fronts_numbers.{takes_by, fronts_numbers, fronts_unused}
+use Rattle.step_laws.proofs.Account_goes.{account_taken}
+use Rattle.step_laws.proofs.Taken_counts.{answers}
 use Rattle.refinement_laws.proofs.Ledger_told.{IsAhead, ledger_told, answered_told, checked_told, based_told}
 use Rattle.refinement_laws.proofs.Zone_kept.{ledger_of}
 use Rattle.refinement_laws.proofs.Zone_moves.{zone_made}

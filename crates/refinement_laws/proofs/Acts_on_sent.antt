@@ -34,12 +34,12 @@ use Rattle.plain_state.specs.Refinement.{mm_of_entry, head_of, pace_of, onboard_
 use Rattle.event_laws.proofs.Entered_same.{number_most}
 use Rattle.event_laws.proofs.Issued_all.{AllIssued, issued_all}
 use Rattle.way_laws.proofs.Line_builds.{portal_on_line}
-use Rattle.invariant_laws.proofs.One_route.{path_parts, numbered_controls, kept_cut, journey_few}
+use Rattle.journey_laws.proofs.One_route.{path_parts, numbered_controls, kept_cut, journey_few}
 use Rattle.way_laws.proofs.Between_points.{between_mark, between_steps}
-use Rattle.invariant_laws.proofs.Invariant.{path_fits, IsPath, FirstIs, AuthIs, AuthTrue, RequestTrue, Invariant}
+use Rattle.journey_laws.proofs.Invariant.{path_fits, IsPath, FirstIs, AuthIs, AuthTrue, RequestTrue, Invariant}
 use Rattle.plain_state.proofs.Found_changed.{all_found}
 use Rattle.refinement_laws.proofs.The_zone.{the_zone}
-use Rattle.invariant_laws.proofs.Zone_only.{zone_is}
+use Rattle.journey_laws.proofs.Zone_only.{zone_is}
 use Rattle.refinement_laws.proofs.Way_of.{way_of}
 use Rattle.refinement_laws.proofs.Accepts_now.{range_of}
 use Rattle.refinement_laws.proofs.Order_true.{IsOnLine, OrderTrue}

@@ -25,9 +25,9 @@ use Rattle.plain_state.specs.Plain.{Plain}
 use Rattle.plain_state.specs.Refinement.{Refines}
 use Rattle.way_laws.proofs.Between_points.{between_end}
 use Rattle.event_laws.proofs.Account_next.{issued_is}
-use Rattle.invariant_laws.proofs.Invariant.{Invariant}
-use Rattle.invariant_laws.proofs.One_route.{shrink_before}
-use Rattle.front_laws.proofs.Account_goes.{account_again}
+use Rattle.journey_laws.proofs.Invariant.{Invariant}
+use Rattle.journey_laws.proofs.One_route.{shrink_before}
+use Rattle.step_laws.proofs.Account_goes.{account_again}
 use Rattle.refinement_laws.proofs.Way_now.{Grown}
 use Rattle.refinement_laws.proofs.Way_of.{way_of, way_before}
 use Rattle.refinement_laws.proofs.Acts_on_sent.{way_steps}

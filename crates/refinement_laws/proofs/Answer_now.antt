@@ -21,7 +21,7 @@ use Rattle.plain_state.specs.declared.Controlled.{Controlled}
 use Rattle.plain_state.specs.Zone.{find_controlled, way_found, last_found, full, end_pending, again_found, zone_answer, grown_train}
 use Rattle.definitions.specs.Zones.{zone_id}
 use Rattle.plain_state.specs.Refinement.{pending_of, zone_train_of}
-use Rattle.invariant_laws.proofs.Invariant.{Invariant}
+use Rattle.journey_laws.proofs.Invariant.{Invariant}
 use Rattle.plain_state.proofs.Found_changed.{mapped}
 use Rattle.refinement_laws.proofs.Way_now.{Grown, Shut, way_now, last_now, known_now, full_now, holder_now, reach_now}
 use Rattle.refinement_laws.proofs.Facts_is.{way_is_known}

@@ -35,14 +35,14 @@ use Rattle.event_laws.proofs.Account_next.{fronts_acted}
 use Rattle.event_laws.proofs.Controls_same.{controls_same}
 use Rattle.event_laws.proofs.Issued_all.{NoAuth}
 use Rattle.event_laws.proofs.Last_quiet.{greatest_none}
-use Rattle.invariant_laws.proofs.Invariant.{Invariant}
-use Rattle.invariant_laws.proofs.One_route.{shrink_before}
-use Rattle.front_laws.proofs.Account_goes.{account_quiet}
-use Rattle.front_laws.proofs.Fronts_numbers.{takes_by, grown_to, fronts_numbers, fronts_grown}
-use Rattle.front_laws.proofs.Report_ruled.{cut_ruled}
-use Rattle.front_laws.proofs.Route_goes_on.{end_cut, route_cut}
-use Rattle.front_laws.proofs.Ruled_is.{range_first, range_last}
-use Rattle.front_laws.proofs.Taken_counts.{cuts}
+use Rattle.journey_laws.proofs.Invariant.{Invariant}
+use Rattle.journey_laws.proofs.One_route.{shrink_before}
+use Rattle.step_laws.proofs.Account_goes.{account_quiet}
+use Rattle.step_laws.proofs.Fronts_numbers.{takes_by, grown_to, fronts_numbers, fronts_grown}
+use Rattle.step_laws.proofs.Report_ruled.{cut_ruled}
+use Rattle.step_laws.proofs.Route_goes_on.{end_cut, route_cut}
+use Rattle.step_laws.proofs.Ruled_is.{range_first, range_last}
+use Rattle.step_laws.proofs.Taken_counts.{cuts}
 use Rattle.plain_state.proofs.Found_changed.{mapped}
 use Rattle.refinement_laws.proofs.Way_now.{Grown}
 use Rattle.refinement_laws.proofs.Way_of.{way_of}

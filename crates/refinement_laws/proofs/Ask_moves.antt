@@ -38,11 +38,11 @@ use Rattle.way_laws.proofs.Grown_end.{grown_end}
 use Rattle.way_laws.proofs.Between_points.{between_some, between_end, between_within}
 use Rattle.event_laws.proofs.Account_next.{issued_is}
 use Rattle.event_laws.proofs.Still_world.{journey_still}
-use Rattle.invariant_laws.proofs.Invariant.{end_read, AuthorityIs, Invariant}
-use Rattle.invariant_laws.proofs.One_route.{path_parts, route_reaches, last_end, longest_on}
-use Rattle.front_laws.proofs.Route_goes_on.{route_goes_on}
-use Rattle.front_laws.proofs.Fronts_numbers.{grown_to}
-use Rattle.front_laws.proofs.Ends_narrowed.{ends_grown}
+use Rattle.journey_laws.proofs.Invariant.{end_read, AuthorityIs, Invariant}
+use Rattle.journey_laws.proofs.One_route.{path_parts, route_reaches, last_end, longest_on}
+use Rattle.step_laws.proofs.Route_goes_on.{route_goes_on}
+use Rattle.step_laws.proofs.Fronts_numbers.{grown_to}
+use Rattle.step_laws.proofs.Ends_narrowed.{ends_grown}
 use Rattle.plain_state.proofs.Found_changed.{mapped}
 use Rattle.refinement_laws.proofs.Way_now.{Grown}
 use Rattle.refinement_laws.proofs.Way_of.{way_of, way_before}

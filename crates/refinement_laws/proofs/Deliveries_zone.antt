@@ -18,7 +18,7 @@ use Rattle.plain_state.specs.Plain.{Plain, is_link, takes_but}
 use Rattle.plain_state.specs.Refinement.{Refines}
 use Rattle.event_laws.proofs.By_does.{effect_event}
 use Rattle.refinement_laws.proofs.The_zone.{zone_positive, zone_most, zone_declared_there, link_to_zone, link_to_world}
-use Rattle.invariant_laws.proofs.Zone_only.{actor_zone}
+use Rattle.journey_laws.proofs.Zone_only.{actor_zone}
 
 -- some numbers, one after the other
 unfoldable range : ℕ → ℕ → List ℕ

@@ -31,12 +31,12 @@ use Rattle.plain_state.specs.Plain.{Plain}
 use Rattle.plain_state.specs.Refinement.{zone_train, Refines}
 use Rattle.event_laws.proofs.Issued_all.{AllIn, NoAuth}
 use Rattle.event_laws.proofs.Controls_same.{controls_knows, controls_same, controls_now, now_acted}
-use Rattle.invariant_laws.proofs.Invariant.{end_read, AuthorityIs, Invariant}
-use Rattle.invariant_laws.proofs.One_route.{last_end}
+use Rattle.journey_laws.proofs.Invariant.{end_read, AuthorityIs, Invariant}
+use Rattle.journey_laws.proofs.One_route.{last_end}
 use Rattle.event_laws.proofs.Account_next.{counted_else, issued_is}
 use Rattle.event_laws.proofs.Still_world.{last_still}
-use Rattle.front_laws.proofs.Entry_fronts.{known_long}
-use Rattle.front_laws.proofs.Ends_narrowed.{ends_entered}
+use Rattle.step_laws.proofs.Entry_fronts.{known_long}
+use Rattle.step_laws.proofs.Ends_narrowed.{ends_entered}
 use Rattle.plain_state.proofs.Found_changed.{mapped, found_placed, ids_placed, distinct_placed}
 use Rattle.event_laws.proofs.Known_more.{known_more}
 use Rattle.refinement_laws.proofs.Way_now.{Grown}

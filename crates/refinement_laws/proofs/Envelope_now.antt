@@ -18,7 +18,7 @@ use Rattle.plain_state.specs.Refinement.{ZoneRefines}
 use Rattle.way_laws.proofs.Cut_front.{cut_front, cut_total}
 use Rattle.way_laws.proofs.Cut_cut.{points_after}
 use Rattle.way_laws.proofs.Between_points.{begin_of, behind_from, between_steps}
-use Rattle.invariant_laws.proofs.Invariant.{Invariant}
+use Rattle.journey_laws.proofs.Invariant.{Invariant}
 use Rattle.refinement_laws.proofs.Way_of.{way_of}
 use Rattle.refinement_laws.proofs.Holds_are.{found_controls, found_kept}
 

@@ -19,7 +19,7 @@ use Rattle.plain_state.specs.World.{find_train, facts_found, entry_found, sender
 use Rattle.definitions.specs.Zones.{zone_id}
 use Rattle.plain_state.specs.Plain.{Plain}
 use Rattle.plain_state.specs.Refinement.{mm_of_entry, head_of, onboard_of, world_of, Refines}
-use Rattle.invariant_laws.proofs.Invariant.{Invariant}
+use Rattle.journey_laws.proofs.Invariant.{Invariant}
 
 -- A train that the zone does not control has no way, and one that it controls has.
 

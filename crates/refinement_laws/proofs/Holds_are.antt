@@ -19,7 +19,7 @@ use Rattle.plain_state.specs.Zone.{find_controlled, hold_has}
 use Rattle.definitions.specs.Zones.{zone_id}
 use Rattle.plain_state.specs.Refinement.{zone_train_of, zone_train}
 use Rattle.way_laws.proofs.Between_points.{begin_of, behind_from}
-use Rattle.invariant_laws.proofs.Invariant.{Invariant}
+use Rattle.journey_laws.proofs.Invariant.{Invariant}
 use Rattle.refinement_laws.proofs.Facts_is.{way_is_known}
 use Rattle.refinement_laws.proofs.Zone_kept.{ledger_of, kept_train, zone_kept}
 

@@ -25,8 +25,8 @@ use Rattle.way_laws.proofs.Cut_front.{cut_front, cut_some, cut_total}
 use Rattle.way_laws.proofs.Cut_cut.{cut_again, offset_more}
 use Rattle.way_laws.proofs.Between_points.{begin_of}
 use Rattle.way_laws.proofs.Between_longer.{between_cut, begin_cut, between_longer}
-use Rattle.invariant_laws.proofs.Invariant.{AuthorityIs, Invariant}
-use Rattle.invariant_laws.proofs.One_route.{kept_cut, longest_on}
+use Rattle.journey_laws.proofs.Invariant.{AuthorityIs, Invariant}
+use Rattle.journey_laws.proofs.One_route.{kept_cut, longest_on}
 use Rattle.refinement_laws.proofs.Ledger_told.{longer_shifted}
 use Rattle.refinement_laws.proofs.Zone_kept.{ledger_of, kept_train, zone_kept}
 

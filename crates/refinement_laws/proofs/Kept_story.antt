@@ -14,7 +14,7 @@ use Rattle.definitions.specs.Safe.{Kept}
 use Rattle.event_laws.proofs.Issued_all.{AllIssued}
 use Rattle.event_laws.proofs.Admitted.{admitted}
 use Rattle.event_laws.proofs.By_does.{effect_event}
-use Rattle.fit_laws.proofs.Segment_ranges.{segment_ranges}
+use Rattle.safe_laws.proofs.Segment_ranges.{segment_ranges}
 use Rattle.refinement_laws.proofs.Pace_now.{AllPaced, pace_start, pace_step}
 use Rattle.refinement_laws.proofs.Closed_now.{IsPlaced, OrderPlaced}
 use Rattle.refinement_laws.proofs.Order_true.{IsOnLine, OrderTrue, orders_start, orders_step}

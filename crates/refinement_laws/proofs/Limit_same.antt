@@ -18,9 +18,9 @@ use Rattle.way_laws.proofs.Cut_front.{cut_all}
 use Rattle.event_laws.proofs.Facts_stay.{entered_stays}
 use Rattle.journey_laws.proofs.Motion.{Motion, head_next}
 use Rattle.journey_laws.proofs.Journey_track.{journey_ends, journey_led}
-use Rattle.invariant_laws.proofs.Invariant.{Invariant}
-use Rattle.invariant_laws.proofs.One_route.{on_controls}
-use Rattle.invariant_laws.proofs.First_steps.{off_journey, controlled_some, controlled_reaches, controlled_first, end_same}
+use Rattle.journey_laws.proofs.Invariant.{Invariant}
+use Rattle.journey_laws.proofs.One_route.{on_controls}
+use Rattle.journey_laws.proofs.First_steps.{off_journey, controlled_some, controlled_reaches, controlled_first, end_same}
 use Rattle.refinement_laws.proofs.Head_moved.{head_at, head_moved}
 
 -- where the head of a train on the line is

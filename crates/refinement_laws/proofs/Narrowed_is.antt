@@ -19,7 +19,7 @@ use Rattle.plain_state.specs.declared.Controlled.{Controlled}
 use Rattle.plain_state.specs.Zone.{has_mark, narrowed_by, checked, check, cut_behind, place_of_train}
 use Rattle.way_laws.proofs.Cut_front.{total_append}
 use Rattle.way_laws.proofs.Between_points.{begin_of, behind_from, behind_take, between_rear_at, between_front_at}
-use Rattle.front_laws.proofs.Narrowed_shifted.{narrowed_to, narrowed_shifted}
+use Rattle.step_laws.proofs.Narrowed_shifted.{narrowed_to, narrowed_shifted}
 use Rattle.refinement_laws.proofs.Ledger_told.{shifted_twice, checked_shifted}
 use Rattle.refinement_laws.proofs.Zone_kept.{kept_train}
 use Rattle.refinement_laws.proofs.Mark_is.{named_is, behind_way}

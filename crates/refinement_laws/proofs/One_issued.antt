@@ -21,12 +21,12 @@ use Rattle.definitions.specs.Zones.{zone_id}
 use Rattle.authority_ledger.specs.declared.ledger.Ledger.{Ledger}
 use Rattle.event_laws.proofs.Issued_all.{AllIn, AllIssued, AuthHas, NoAuth}
 use Rattle.event_laws.proofs.Still_world.{journey_still, last_still}
-use Rattle.invariant_laws.proofs.Invariant.{end_read, AuthorityIs, AuthIs, AuthTrue, Invariant}
-use Rattle.invariant_laws.proofs.One_route.{last_end, shrink_before}
-use Rattle.front_laws.proofs.Fronts_numbers.{takes_by}
-use Rattle.front_laws.proofs.Account_goes.{counted_taken, counted_next}
-use Rattle.front_laws.proofs.Route_goes_on.{end_goes_on, end_most}
-use Rattle.front_laws.proofs.Taken_counts.{answers, cuts}
+use Rattle.journey_laws.proofs.Invariant.{end_read, AuthorityIs, AuthIs, AuthTrue, Invariant}
+use Rattle.journey_laws.proofs.One_route.{last_end, shrink_before}
+use Rattle.step_laws.proofs.Fronts_numbers.{takes_by}
+use Rattle.step_laws.proofs.Account_goes.{counted_taken, counted_next}
+use Rattle.step_laws.proofs.Route_goes_on.{end_goes_on, end_most}
+use Rattle.step_laws.proofs.Taken_counts.{answers, cuts}
 use Rattle.refinement_laws.proofs.Account_heard.{behind_grown}
 use Rattle.refinement_laws.proofs.Zone_moves.{zone_made, zone_heads}
 

@@ -25,7 +25,7 @@ use Rattle.plain_state.specs.World.{find_train, authorized_found, error_found}
 use Rattle.plain_state.specs.Plain.{Plain}
 use Rattle.plain_state.specs.Admits.{is_known, plain_built, plain_too_many, reports_head, world_reports, can_move_found, world_moves, may_move_found, world_stops, world_enters, hears_noise, plain_takes, plain_premise}
 use Rattle.plain_state.specs.Refinement.{head_of, Refines}
-use Rattle.invariant_laws.proofs.Invariant.{Invariant}
+use Rattle.journey_laws.proofs.Invariant.{Invariant}
 use Rattle.refinement_laws.proofs.Facts_is.{declared_is, entry_is, authorized_is, head_is, on_is, room_is, error_is, speed_is}
 
 module _ (line : Line) (s : Story) (p : Plain) (k : Refines line s p) (invariant : (t : ℕ) → Invariant line t s) where

@@ -27,9 +27,9 @@ use Rattle.event_laws.proofs.Issued_all.{NoAuth}
 use Rattle.event_laws.proofs.Controls_same.{controls_same}
 use Rattle.event_laws.proofs.Known_more.{known_still}
 use Rattle.event_laws.proofs.Last_quiet.{greatest_none}
-use Rattle.invariant_laws.proofs.Invariant.{Invariant}
-use Rattle.front_laws.proofs.Route_goes_on.{end_nearer, route_cut}
-use Rattle.front_laws.proofs.Taken_counts.{answers, cuts}
+use Rattle.journey_laws.proofs.Invariant.{Invariant}
+use Rattle.step_laws.proofs.Route_goes_on.{end_nearer, route_cut}
+use Rattle.step_laws.proofs.Taken_counts.{answers, cuts}
 use Rattle.plain_state.proofs.Found_changed.{mapped, found_changed, found_other, ids_change, distinct_change}
 use Rattle.refinement_laws.proofs.Way_now.{Grown}
 use Rattle.refinement_laws.proofs.Acts_on_sent.{way_steps}

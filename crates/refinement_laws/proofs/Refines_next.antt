@@ -18,8 +18,8 @@ use Rattle.plain_state.specs.Admits.{plain_built, plain_too_many, plain_premise}
 use Rattle.plain_state.specs.Refinement.{Refines}
 use Rattle.event_laws.proofs.Issued_all.{AllIn, AllIssued}
 use Rattle.event_laws.proofs.Admitted.{admitted}
-use Rattle.fit_laws.proofs.Fits_story.{all_fit, fits_story}
-use Rattle.invariant_laws.proofs.Invariant.{Invariant}
+use Rattle.safe_laws.proofs.Fits_story.{all_fit, fits_story}
+use Rattle.journey_laws.proofs.Invariant.{Invariant}
 use Rattle.refinement_laws.proofs.Premise_now.{built_now, too_many_now, premise_now}
 use Rattle.refinement_laws.proofs.The_zone.{the_zone}
 use Rattle.refinement_laws.proofs.Kept_story.{kept_story}

@@ -33,10 +33,10 @@ use Rattle.definitions.specs.Zones.{zone_id}
 use Rattle.plain_state.specs.Plain.{Plain, plain_start, by_world as world_next, by_zone as zone_next, taken_effect, taken_next, plain_effect, plain_next}
 use Rattle.plain_state.specs.Refinement.{head_of, ids, Distinct, Refines}
 use Rattle.event_laws.proofs.Admitted.{Admitted}
-use Rattle.invariant_laws.proofs.Invariant.{AuthIs, AuthTrue, Invariant}
+use Rattle.journey_laws.proofs.Invariant.{AuthIs, AuthTrue, Invariant}
 use Rattle.event_laws.proofs.Grant_takes.{grant_takes}
 use Rattle.refinement_laws.proofs.The_zone.{world_sent}
-use Rattle.invariant_laws.proofs.Zone_only.{actor_zone}
+use Rattle.journey_laws.proofs.Zone_only.{actor_zone}
 use Rattle.refinement_laws.proofs.Facts_is.{facts_is, sender_is, head_is, on_is, number_is, taken_is}
 use Rattle.refinement_laws.proofs.Acts_on_sent.{world_acts_on_sent, zone_acts_on_sent}
 use Rattle.refinement_laws.proofs.Order_true.{OrderTrue}

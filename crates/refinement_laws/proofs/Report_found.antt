@@ -25,10 +25,10 @@ use Rattle.plain_state.specs.declared.Controlled.{Controlled}
 use Rattle.plain_state.specs.Zone.{find_controlled, change_controlled, has_mark, uses_mark, narrowed_by, cut_at_rear, checked, check, reported_by, place_of_train, place_found, grown_train}
 use Rattle.definitions.specs.Zones.{zone_id}
 use Rattle.plain_state.specs.Refinement.{zone_train}
-use Rattle.invariant_laws.proofs.Invariant.{Invariant}
-use Rattle.front_laws.proofs.Head_place.{control_of}
-use Rattle.front_laws.proofs.Entry_fronts.{known_long}
-use Rattle.front_laws.proofs.Fronts_numbers.{grown_to, fronts_left, fronts_kept}
+use Rattle.journey_laws.proofs.Invariant.{Invariant}
+use Rattle.step_laws.proofs.Head_place.{control_of}
+use Rattle.step_laws.proofs.Entry_fronts.{known_long}
+use Rattle.step_laws.proofs.Fronts_numbers.{grown_to, fronts_left, fronts_kept}
 use Rattle.plain_state.proofs.Found_changed.{mapped, found_changed, found_other}
 use Rattle.refinement_laws.proofs.Way_now.{Grown}
 use Rattle.refinement_laws.proofs.Way_of.{way_of}

@@ -38,8 +38,8 @@ use Rattle.event_laws.proofs.Account_next.{issued_is}
 use Rattle.event_laws.proofs.Controls_same.{controls_same}
 use Rattle.event_laws.proofs.Issued_all.{NoAuth, no_issue}
 use Rattle.event_laws.proofs.Last_quiet.{greatest_none}
-use Rattle.invariant_laws.proofs.Invariant.{Invariant}
-use Rattle.front_laws.proofs.Fronts_numbers.{grown_to, fronts_unused}
+use Rattle.journey_laws.proofs.Invariant.{Invariant}
+use Rattle.step_laws.proofs.Fronts_numbers.{grown_to, fronts_unused}
 use Rattle.plain_state.proofs.Found_changed.{mapped}
 use Rattle.refinement_laws.proofs.Way_now.{Grown}
 use Rattle.refinement_laws.proofs.Way_of.{way_of}

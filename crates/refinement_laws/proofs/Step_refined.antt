@@ -31,7 +31,7 @@ use Rattle.plain_state.specs.Refinement.{mm_of_entry, head_of, pace_of, onboard_
 use Rattle.event_laws.proofs.Entered_same.{ever_now}
 use Rattle.journey_laws.proofs.Motion.{heads_rise}
 use Rattle.event_laws.proofs.Issued_all.{AllIn, NoAuth}
-use Rattle.invariant_laws.proofs.Invariant.{Invariant}
+use Rattle.journey_laws.proofs.Invariant.{Invariant}
 use Rattle.refinement_laws.proofs.Find_change.{find_change, find_other, length_change}
 use Rattle.plain_state.proofs.Found_changed.{mapped}
 use Rattle.event_laws.proofs.Still_world.{heads_same, StillWorld, last_still, limit_still, authority_still, facts_still, entry_still, undeclared_before, authority_stays, unasked_same, off_same, authorized_same, as_many, clock_still}

@@ -27,7 +27,7 @@ use Rattle.plain_state.specs.Plain.{Plain}
 use Rattle.plain_state.specs.Refinement.{Refines}
 use Rattle.event_laws.proofs.Issued_all.{NoAuth, no_issue}
 use Rattle.event_laws.proofs.Controls_same.{controls_knows}
-use Rattle.invariant_laws.proofs.Invariant.{Invariant}
+use Rattle.journey_laws.proofs.Invariant.{Invariant}
 use Rattle.plain_state.proofs.Found_changed.{ids_change, distinct_change}
 use Rattle.refinement_laws.proofs.Way_now.{Grown, Shut, known_now, full_now, holder_now, reach_now}
 use Rattle.refinement_laws.proofs.Way_of.{way_of}

@@ -17,7 +17,7 @@ use Rattle.definitions.proofs.Unbroken.{unbroken}
 use Rattle.definitions.specs.Zones.{zone_id}
 use Rattle.plain_state.specs.Plain.{Plain, is_link}
 use Rattle.plain_state.specs.Refinement.{ZoneRefines, Refines}
-use Rattle.invariant_laws.proofs.Zone_only.{zone_only, actor_zone}
+use Rattle.journey_laws.proofs.Zone_only.{zone_only, actor_zone}
 
 -- The zone of a valid line is 1 to 16.
 

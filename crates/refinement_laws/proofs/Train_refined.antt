@@ -23,9 +23,9 @@ use Rattle.plain_state.specs.Refinement.{head_of, pace_of, onboard_of, world_of,
 use Rattle.event_laws.proofs.Entered_same.{told_now, entered_same, or_none}
 use Rattle.event_laws.proofs.Issued_all.{AllIn, NoAuth}
 use Rattle.journey_laws.proofs.Journey_track.{journey_ends, journey_led, led_still}
-use Rattle.invariant_laws.proofs.Invariant.{Invariant}
-use Rattle.invariant_laws.proofs.One_route.{on_controls}
-use Rattle.invariant_laws.proofs.First_steps.{controlled_some, controlled_reaches}
+use Rattle.journey_laws.proofs.Invariant.{Invariant}
+use Rattle.journey_laws.proofs.One_route.{on_controls}
+use Rattle.journey_laws.proofs.First_steps.{controlled_some, controlled_reaches}
 use Rattle.refinement_laws.proofs.Find_change.{find_change, find_other, find_append, length_change, length_append}
 use Rattle.plain_state.proofs.Found_changed.{mapped}
 use Rattle.refinement_laws.proofs.Facts_is.{no_entry_authority, no_number}

@@ -25,7 +25,7 @@ use Rattle.plain_state.specs.Zone.{PlainZone, find_controlled, way_found, path_f
 use Rattle.definitions.specs.Zones.{zone_id}
 use Rattle.plain_state.specs.Refinement.{ids, Distinct, pending_of, zone_train_of, zone_train, ZoneRefines}
 use Rattle.event_laws.proofs.Controls_same.{controls_knows}
-use Rattle.invariant_laws.proofs.Invariant.{Invariant}
+use Rattle.journey_laws.proofs.Invariant.{Invariant}
 use Rattle.plain_state.proofs.Found_changed.{mapped, any_is, least_is, ids_length, found_mapped, ids_mapped, distinct_mapped}
 use Rattle.refinement_laws.proofs.Facts_is.{way_is_known, no_way_unknown}
 

@@ -11,13 +11,13 @@ use Rattle.definitions.specs.Longest.{longest_end, longest_route}
 use Rattle.definitions.specs.Fronts.{least_rear, greatest_front}
 use Rattle.definitions.specs.Authority.{way}
 use Rattle.definitions.specs.Zones.{zone_id}
-use Rattle.invariant_laws.proofs.One_route.{kept_reach}
-use Rattle.invariant_laws.proofs.Invariant.{Invariant}
-use Rattle.front_laws.proofs.Head_place.{control_of}
-use Rattle.front_laws.proofs.Entry_fronts.{known_long}
-use Rattle.front_laws.proofs.Fronts_numbers.{least_rear_is, greatest_front_is}
-use Rattle.front_laws.proofs.Ends_narrowed.{least_front_is}
-use Rattle.front_laws.proofs.Way_begins.{way_begins}
+use Rattle.journey_laws.proofs.One_route.{kept_reach}
+use Rattle.journey_laws.proofs.Invariant.{Invariant}
+use Rattle.step_laws.proofs.Head_place.{control_of}
+use Rattle.step_laws.proofs.Entry_fronts.{known_long}
+use Rattle.step_laws.proofs.Fronts_numbers.{least_rear_is, greatest_front_is}
+use Rattle.step_laws.proofs.Ends_narrowed.{least_front_is}
+use Rattle.step_laws.proofs.Way_begins.{way_begins}
 
 -- where the parts of the way lie
 pub record WayOf (line : Line) (t : ℕ) (s : Story) (lo hi : ℕ) : Type 0 where

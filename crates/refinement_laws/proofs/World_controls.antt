@@ -9,9 +9,9 @@ use Rattle.definitions.specs.Longest.{longest_end}
 use Rattle.definitions.specs.Safe.{IsLineOfOneZone}
 use Rattle.definitions.specs.Zones.{zone_id}
 use Rattle.event_laws.proofs.Issued_all.{NoAuth}
-use Rattle.invariant_laws.proofs.Invariant.{Invariant}
-use Rattle.front_laws.proofs.Taken_counts.{cuts}
-use Rattle.front_laws.proofs.Route_goes_on.{end_quiet}
+use Rattle.journey_laws.proofs.Invariant.{Invariant}
+use Rattle.step_laws.proofs.Taken_counts.{cuts}
+use Rattle.step_laws.proofs.Route_goes_on.{end_quiet}
 use Rattle.refinement_laws.proofs.The_zone.{zone_positive}
 
 -- the longest authority ends where it did, but for a shrink that counts as taken

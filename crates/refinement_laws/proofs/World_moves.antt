@@ -17,7 +17,7 @@ use Rattle.plain_state.specs.Plain.{Plain, posted, by_world as world_next}
 use Rattle.plain_state.specs.Refinement.{world_train, zone_train, ZoneRefines, Refines}
 use Rattle.event_laws.proofs.Entered_same.{entered_same}
 use Rattle.event_laws.proofs.Still_world.{StillWorld, head_same, facts_still, entry_still, authority_still, last_still, limit_still, sent_by, sent_else, journey_still}
-use Rattle.invariant_laws.proofs.Invariant.{Invariant}
+use Rattle.journey_laws.proofs.Invariant.{Invariant}
 use Rattle.refinement_laws.proofs.The_zone.{the_zone, each_zone}
 use Rattle.event_laws.proofs.Last_quiet.{last_quiet}
 use Rattle.refinement_laws.proofs.Holds_are.{fronts_are, holds_are}

@@ -30,7 +30,7 @@ use Rattle.plain_state.specs.Plain.{Plain, by_world as world_next}
 use Rattle.plain_state.specs.Refinement.{head_of, pace_of, onboard_of, world_of, world_train, Refines}
 use Rattle.event_laws.proofs.Entered_same.{entered_same}
 use Rattle.event_laws.proofs.Issued_all.{issued_all, NoAuth, no_issue}
-use Rattle.invariant_laws.proofs.Invariant.{AuthorityIs, AuthIs, AuthTrue, Invariant}
+use Rattle.journey_laws.proofs.Invariant.{AuthorityIs, AuthIs, AuthTrue, Invariant}
 use Rattle.refinement_laws.proofs.Find_change.{find_change, find_other, length_change}
 use Rattle.plain_state.proofs.Found_changed.{mapped}
 use Rattle.event_laws.proofs.Still_world.{head_same, heads_same, journey_still, facts_still, entry_still, limit_kept, limit_next, limit_refused, number_next, number_off, as_many, unasked_same, off_same, authorized_same, clock_still}

@@ -21,12 +21,12 @@ use Rattle.event_laws.proofs.Controls_same.{controls_same, now_idle, report_idle
 use Rattle.event_laws.proofs.Grant_takes.{quiet_grants}
 use Rattle.event_laws.proofs.Known_more.{known_still}
 use Rattle.event_laws.proofs.Issued_all.{NoAuth}
-use Rattle.invariant_laws.proofs.Invariant.{SomeIs, Invariant}
-use Rattle.invariant_laws.proofs.First_steps.{FirstSteps, read_same, controlled_first}
-use Rattle.front_laws.proofs.Account_goes.{account_quiet}
-use Rattle.front_laws.proofs.Ends_narrowed.{ends_idle}
-use Rattle.front_laws.proofs.Route_goes_on.{route_stays}
-use Rattle.front_laws.proofs.Taken_counts.{cuts}
+use Rattle.journey_laws.proofs.Invariant.{SomeIs, Invariant}
+use Rattle.journey_laws.proofs.First_steps.{FirstSteps, read_same, controlled_first}
+use Rattle.step_laws.proofs.Account_goes.{account_quiet}
+use Rattle.step_laws.proofs.Ends_narrowed.{ends_idle}
+use Rattle.step_laws.proofs.Route_goes_on.{route_stays}
+use Rattle.step_laws.proofs.Taken_counts.{cuts}
 use Rattle.refinement_laws.proofs.The_zone.{zone_positive}
 use Rattle.refinement_laws.proofs.Facts_is.{no_way}
 use Rattle.refinement_laws.proofs.Ledger_told.{shrink_told, ledger_told}

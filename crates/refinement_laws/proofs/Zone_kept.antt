@@ -22,7 +22,7 @@ use Rattle.definitions.specs.Zones.{zone_id}
 use Rattle.plain_state.specs.Refinement.{pending_of, zone_train_of, zone_train}
 use Rattle.way_laws.proofs.Between_points.{begin_of, behind_from, between_ends}
 use Rattle.event_laws.proofs.Account_next.{issued_is}
-use Rattle.invariant_laws.proofs.Invariant.{Invariant}
+use Rattle.journey_laws.proofs.Invariant.{Invariant}
 use Rattle.refinement_laws.proofs.Way_of.{way_of}
 use Rattle.refinement_laws.proofs.Ledger_told.{ledger_told, pending_told}
 

@@ -19,7 +19,7 @@ use Rattle.definitions.specs.Zones.{zone_id}
 use Rattle.plain_state.specs.Plain.{Plain, by_zone as zone_next}
 use Rattle.plain_state.specs.Refinement.{zone_train, ids, Distinct, ZoneRefines, Refines}
 use Rattle.event_laws.proofs.Still_world.{head_still, unasked_same, off_same, authorized_same, as_many, clock_still}
-use Rattle.invariant_laws.proofs.Invariant.{Invariant}
+use Rattle.journey_laws.proofs.Invariant.{Invariant}
 use Rattle.event_laws.proofs.Controls_same.{now_acted}
 use Rattle.refinement_laws.proofs.The_zone.{the_zone, each_zone}
 use Rattle.refinement_laws.proofs.Closed_now.{OrderPlaced, acted_length, acted_at, closed_next}

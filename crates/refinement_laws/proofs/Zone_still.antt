@@ -24,12 +24,12 @@ use Rattle.definitions.specs.Zones.{zone_id}
 use Rattle.plain_state.specs.Refinement.{zone_train}
 use Rattle.event_laws.proofs.Controls_same.{controls_same, now_acted}
 use Rattle.event_laws.proofs.Issued_all.{NoAuth}
-use Rattle.invariant_laws.proofs.Invariant.{Invariant}
-use Rattle.front_laws.proofs.Fronts_numbers.{takes_by, grown_to, fronts_left, fronts_kept}
-use Rattle.front_laws.proofs.Account_goes.{account_taken, account_quiet}
-use Rattle.front_laws.proofs.Ends_narrowed.{ends_grown, ends_narrowed}
-use Rattle.front_laws.proofs.Route_goes_on.{route_stays}
-use Rattle.front_laws.proofs.Taken_counts.{answers, unanswered_takes, cuts}
+use Rattle.journey_laws.proofs.Invariant.{Invariant}
+use Rattle.step_laws.proofs.Fronts_numbers.{takes_by, grown_to, fronts_left, fronts_kept}
+use Rattle.step_laws.proofs.Account_goes.{account_taken, account_quiet}
+use Rattle.step_laws.proofs.Ends_narrowed.{ends_grown, ends_narrowed}
+use Rattle.step_laws.proofs.Route_goes_on.{route_stays}
+use Rattle.step_laws.proofs.Taken_counts.{answers, unanswered_takes, cuts}
 use Rattle.plain_state.proofs.Found_changed.{mapped}
 use Rattle.refinement_laws.proofs.Way_of.{way_of}
 use Rattle.refinement_laws.proofs.Zone_kept.{ledger_of, kept_train, zone_kept, kept_grown, known_stays, zone_behind}

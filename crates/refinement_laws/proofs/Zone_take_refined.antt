@@ -19,7 +19,7 @@ use Rattle.definitions.specs.Zones.{zone_id}
 use Rattle.plain_state.specs.Plain.{Plain, by_zone as zone_next}
 use Rattle.plain_state.specs.Refinement.{zone_train_of, ZoneRefines, Refines}
 use Rattle.event_laws.proofs.Controls_same.{controls_same}
-use Rattle.invariant_laws.proofs.Invariant.{Invariant}
+use Rattle.journey_laws.proofs.Invariant.{Invariant}
 use Rattle.refinement_laws.proofs.The_zone.{the_zone}
 use Rattle.plain_state.proofs.Found_changed.{filtered_is}
 use Rattle.refinement_laws.proofs.Way_now.{grown_of}

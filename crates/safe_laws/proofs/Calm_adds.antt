@@ -16,9 +16,9 @@ use Rattle.event_laws.proofs.Grant_takes.{quiet_grants}
 use Rattle.definitions.specs.Zones.{zone_id}
 use Rattle.event_laws.proofs.Controls_same.{controls_same}
 use Rattle.event_laws.proofs.Issued_all.{AllIn, NoAuth, in_all_weaker, AuthHas, auth_without}
-use Rattle.invariant_laws.proofs.Invariant.{Invariant}
-use Rattle.front_laws.proofs.Route_goes_on.{end_most}
-use Rattle.front_laws.proofs.Taken_counts.{cuts}
+use Rattle.journey_laws.proofs.Invariant.{Invariant}
+use Rattle.step_laws.proofs.Route_goes_on.{end_most}
+use Rattle.step_laws.proofs.Taken_counts.{cuts}
 use Rattle.safe_laws.proofs.Held_points.{held_controls}
 use Rattle.safe_laws.proofs.Held_or_beyond.{held_or_beyond, held_cut}
 

@@ -23,8 +23,8 @@ use Rattle.way_laws.proofs.Cut_cut.{cut_cut, points_after}
 use Rattle.event_laws.proofs.Still_world.{off_number}
 use Rattle.event_laws.proofs.Facts_stay.{declared_stays, long_stays}
 use Rattle.journey_laws.proofs.Motion.{place, place_at, Timed, place_at_most}
-use Rattle.invariant_laws.proofs.One_route.{numbered_controls, on_controls}
-use Rattle.invariant_laws.proofs.Invariant.{AuthorityIs, AuthTrue, ControlIs, FrontsAre, Invariant}
+use Rattle.journey_laws.proofs.One_route.{numbered_controls, on_controls}
+use Rattle.journey_laws.proofs.Invariant.{AuthorityIs, AuthTrue, ControlIs, FrontsAre, Invariant}
 use Rattle.safe_laws.proofs.Held_points.{one, route_has, rear_is, rear_behind, front_is, way_points, auth_points, route_owner, points_held}
 use Rattle.safe_laws.proofs.Issued_found.{issued_found}
 

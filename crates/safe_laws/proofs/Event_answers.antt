@@ -27,7 +27,7 @@ use Rattle.definitions.specs.Safe.{IsReach, Denied, Lengthened, Answered, IsLine
 use Rattle.definitions.specs.Zones.{zone_id}
 use Rattle.way_laws.proofs.Reach_granted.{reach_is, reach_granted}
 use Rattle.way_laws.proofs.Grown_end.{grown_end}
-use Rattle.invariant_laws.proofs.Invariant.{Invariant}
+use Rattle.journey_laws.proofs.Invariant.{Invariant}
 use Rattle.safe_laws.proofs.Held_points.{held_way, way_is}
 use Rattle.safe_laws.proofs.Held_way_ends.{held_way_some, held_way_within}
 

@@ -39,11 +39,11 @@ use Rattle.event_laws.proofs.Issued_all.{AllIn, NoAuth, no_issue, AuthHas}
 use Rattle.event_laws.proofs.Admitted.{Admitted}
 use Rattle.journey_laws.proofs.Motion.{Timed, heads_grow}
 use Rattle.event_laws.proofs.Still_world.{heads_still}
-use Rattle.invariant_laws.proofs.Invariant.{RequestTrue, Invariant}
+use Rattle.journey_laws.proofs.Invariant.{RequestTrue, Invariant}
 use Rattle.event_laws.proofs.Controls_same.{way_controls}
-use Rattle.invariant_laws.proofs.One_route.{shrink_before}
-use Rattle.front_laws.proofs.Taken_counts.{answers, unanswered_takes}
-use Rattle.invariant_laws.proofs.Zone_only.{actor_zone}
+use Rattle.journey_laws.proofs.One_route.{shrink_before}
+use Rattle.step_laws.proofs.Taken_counts.{answers, unanswered_takes}
+use Rattle.journey_laws.proofs.Zone_only.{actor_zone}
 use Rattle.safe_laws.proofs.Held_points.{held_way, way_is}
 use Rattle.safe_laws.proofs.Held_way_ends.{held_way_some, held_way_within, held_way_end, held_way_ends, held_way_to}
 use Rattle.safe_laws.proofs.Calm_adds.{Adds, calm_adds, no_auth_calm, added_here}

@@ -4,7 +4,7 @@ use Rattle.std.proofs.lemmas.Bool.Decides.{nat_tests}
 use Rattle.std.specs.Prelude.{nat_le}
 use Rattle.list_laws.proofs.By_test.{by_test}
 use Rattle.track_points.specs.Points.{Point, has_between, steps_to}
-use Rattle.front_laws.proofs.Fronts_from.{fronts_from}
+use Rattle.step_laws.proofs.Fronts_from.{fronts_from}
 use Rattle.definitions.specs.Track.{Line, seg_len, layout}
 use Rattle.definitions.specs.Story.{Transition, Story}
 use Rattle.definitions.specs.World.{long_of, first_entry, head}
@@ -17,14 +17,14 @@ use Rattle.definitions.specs.Zones.{zone_id}
 use Rattle.event_laws.proofs.Controls_same.{controls_stays}
 use Rattle.event_laws.proofs.Facts_stay.{long_stays, first_stays}
 use Rattle.journey_laws.proofs.Motion.{place, place_at_most}
-use Rattle.invariant_laws.proofs.Invariant.{ControlIs, FrontsAre, Invariant}
+use Rattle.journey_laws.proofs.Invariant.{ControlIs, FrontsAre, Invariant}
 use Rattle.safe_laws.proofs.Points_cases.{range_in, range_least, points_cases}
-use Rattle.front_laws.proofs.Head_place.{place_within}
+use Rattle.step_laws.proofs.Head_place.{place_within}
 use Rattle.way_laws.proofs.Cut_front.{cut_points}
 use Rattle.way_laws.proofs.Cut_cut.{cut_cut}
 use Rattle.track_points.proofs.Points_found.{points_wider}
-use Rattle.front_laws.proofs.Route_goes_on.{route_goes_on, end_goes_on, end_nearer, route_cut}
-use Rattle.front_laws.proofs.Taken_counts.{cuts}
+use Rattle.step_laws.proofs.Route_goes_on.{route_goes_on, end_goes_on, end_nearer, route_cut}
+use Rattle.step_laws.proofs.Taken_counts.{cuts}
 use Rattle.event_laws.proofs.Issued_all.{NoAuth}
 use Rattle.safe_laws.proofs.Held_points.{one, route_has, rear_is, held_points, points_held}
 

@@ -20,10 +20,10 @@ use Rattle.definitions.specs.Zones.{zone_id}
 use Rattle.way_laws.proofs.Cut_front.{cut_points}
 use Rattle.way_laws.proofs.Between_points.{between_points}
 use Rattle.journey_laws.proofs.Motion.{place}
-use Rattle.invariant_laws.proofs.Invariant.{AuthorityIs, ControlIs, FrontsAre, Invariant}
-use Rattle.invariant_laws.proofs.One_route.{OneRoute, one_route}
-use Rattle.front_laws.proofs.Fronts_numbers.{greatest_front_is}
-use Rattle.front_laws.proofs.Way_begins.{rear_before_least, way_behind}
+use Rattle.journey_laws.proofs.Invariant.{AuthorityIs, ControlIs, FrontsAre, Invariant}
+use Rattle.journey_laws.proofs.One_route.{OneRoute, one_route}
+use Rattle.step_laws.proofs.Fronts_numbers.{greatest_front_is}
+use Rattle.step_laws.proofs.Way_begins.{rear_before_least, way_behind}
 use Rattle.safe_laws.proofs.Points_owner.{points_owner}
 
 -- the way of a train that the line's zone controls

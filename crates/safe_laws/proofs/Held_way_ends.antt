@@ -13,8 +13,8 @@ use Rattle.definitions.specs.Steps.{path_to}
 use Rattle.way_laws.proofs.Cut_front.{cut_end}
 use Rattle.way_laws.proofs.Between_points.{between_some, between_end, between_within}
 use Rattle.event_laws.proofs.Still_world.{journey_still}
-use Rattle.invariant_laws.proofs.Invariant.{Invariant}
-use Rattle.front_laws.proofs.Way_begins.{way_begins}
+use Rattle.journey_laws.proofs.Invariant.{Invariant}
+use Rattle.step_laws.proofs.Way_begins.{way_begins}
 use Rattle.safe_laws.proofs.Held_points.{one, held_way, rear_before}
 
 module _ (line : Line) (t : ℕ) (s : Story) (l : IsLineOfOneZone line) (invariant : Invariant line t s) (control : controls (zone_id line) t s ≡ true) where

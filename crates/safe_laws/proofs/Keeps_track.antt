@@ -15,8 +15,8 @@ use Rattle.definitions.specs.Safe.{IsLineOfOneZone, OnTrack}
 use Rattle.definitions.specs.Zones.{zone_id}
 use Rattle.way_laws.proofs.Cut_front.{cut_total}
 use Rattle.way_laws.proofs.Between_points.{behind_least}
-use Rattle.invariant_laws.proofs.Invariant.{ControlIs, Invariant}
-use Rattle.invariant_laws.proofs.One_route.{OneRoute, one_route, path_parts, on_controls, journey_few}
+use Rattle.journey_laws.proofs.Invariant.{ControlIs, Invariant}
+use Rattle.journey_laws.proofs.One_route.{OneRoute, one_route, path_parts, on_controls, journey_few}
 use Rattle.safe_laws.proofs.Held_points.{rear_behind}
 
 module _ (line : Line) (t : ℕ) (s : Story) (l : IsLineOfOneZone line) (invariant : Invariant line t s) (on : entered t s ≡ true) (numbers : last_issued t s < 2 ^ 27) where

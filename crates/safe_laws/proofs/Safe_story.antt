@@ -8,7 +8,7 @@ use Rattle.definitions.specs.Steps.{story_of}
 use Rattle.definitions.specs.Safe.{Safe, IsLineOfOneZone, Kept, AllGranted}
 use Rattle.event_laws.proofs.Admitted.{admitted}
 use Rattle.journey_laws.proofs.Timed_story.{timed_story}
-use Rattle.invariant_laws.proofs.Invariant.{Invariant}
+use Rattle.journey_laws.proofs.Invariant.{Invariant}
 use Rattle.safe_laws.proofs.Covers_now.{covers_now, within_now, way_held_now}
 use Rattle.safe_laws.proofs.Keeps_track.{keeps_track}
 use Rattle.safe_laws.proofs.Apart_step.{Apart, apart_start, apart_step}

@@ -15,12 +15,12 @@ use Rattle.event_laws.proofs.Issued_all.{AllIssued}
 use Rattle.event_laws.proofs.Admitted.{Admitted}
 use Rattle.event_laws.proofs.By_does.{effect_event}
 use Rattle.journey_laws.proofs.Head_step.{enter_once}
-use Rattle.invariant_laws.proofs.Invariant.{RequestTrue, Authorized, Invariant}
+use Rattle.journey_laws.proofs.Invariant.{RequestTrue, Authorized, Invariant}
 use Rattle.event_laws.proofs.Last_quiet.{last_grows}
-use Rattle.front_laws.proofs.Taken_counts.{cuts}
-use Rattle.front_laws.proofs.Account_goes.{counted_next}
-use Rattle.authority_laws.proofs.Authority_stays.{Going}
-use Rattle.authority_laws.proofs.Shrink_taken.{end_place}
+use Rattle.step_laws.proofs.Taken_counts.{cuts}
+use Rattle.step_laws.proofs.Account_goes.{counted_next}
+use Rattle.step_laws.proofs.Authority_stays.{Going}
+use Rattle.step_laws.proofs.Shrink_taken.{end_place}
 use Rattle.step_laws.proofs.Limit_goes.{going}
 use Rattle.step_laws.proofs.Requests_stay.{number_grows, requests_stay, effect_requests}
 use Rattle.step_laws.proofs.Issues.{Issues}

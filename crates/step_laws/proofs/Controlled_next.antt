@@ -27,18 +27,18 @@ use Rattle.event_laws.proofs.Grant_takes.{quiet_grants}
 use Rattle.event_laws.proofs.Last_quiet.{last_quiet, last_grows}
 use Rattle.journey_laws.proofs.Motion.{place, place_at_most}
 use Rattle.journey_laws.proofs.Head_step.{enter_once}
-use Rattle.invariant_laws.proofs.Invariant.{AuthorityIs, AuthIs, AuthTrue, FrontsAre, SomeIs, ControlIs, EntryHeld, LimitIs, Authorized}
-use Rattle.invariant_laws.proofs.One_route.{numbered_controls, on_controls}
-use Rattle.front_laws.proofs.Taken_counts.{cuts}
-use Rattle.authority_laws.proofs.Authority_stays.{off_before, path_stays, first_is_stays, Going}
-use Rattle.authority_laws.proofs.New_auth.{Sent, never}
-use Rattle.authority_laws.proofs.Longest_stays.{control_still}
-use Rattle.authority_laws.proofs.Last_stays.{sent_calm, again_is}
-use Rattle.authority_laws.proofs.Shorter_new.{shorter_is}
-use Rattle.authority_laws.proofs.Auths_stay.{AuthsStay, held_stays, auths_stay, none_true}
-use Rattle.authority_laws.proofs.Control_new.{new_stay, reads_new, new_is, control_new}
-use Rattle.authority_laws.proofs.Shrink_taken.{TakenNow, end_place, head_before, reads_cut, control_cut, auths_cut, limit_cut, entry_cut}
-use Rattle.authority_laws.proofs.Rear_grows.{rear_grows}
+use Rattle.journey_laws.proofs.Invariant.{AuthorityIs, AuthIs, AuthTrue, FrontsAre, SomeIs, ControlIs, EntryHeld, LimitIs, Authorized}
+use Rattle.journey_laws.proofs.One_route.{numbered_controls, on_controls}
+use Rattle.step_laws.proofs.Taken_counts.{cuts}
+use Rattle.step_laws.proofs.Authority_stays.{off_before, path_stays, first_is_stays, Going}
+use Rattle.step_laws.proofs.New_auth.{Sent, never}
+use Rattle.step_laws.proofs.Longest_stays.{control_still}
+use Rattle.step_laws.proofs.Last_stays.{sent_calm, again_is}
+use Rattle.step_laws.proofs.Shorter_new.{shorter_is}
+use Rattle.step_laws.proofs.Auths_stay.{AuthsStay, held_stays, auths_stay, none_true}
+use Rattle.step_laws.proofs.Control_new.{new_stay, reads_new, new_is, control_new}
+use Rattle.step_laws.proofs.Shrink_taken.{TakenNow, end_place, head_before, reads_cut, control_cut, auths_cut, limit_cut, entry_cut}
+use Rattle.step_laws.proofs.Rear_grows.{rear_grows}
 use Rattle.step_laws.proofs.Issues.{Issues, quiet, longer, again, shorter, cut}
 use Rattle.step_laws.proofs.Effect_took_is.{TakenIs, TookIs}
 use Rattle.step_laws.proofs.Stays_next.{Stays, quiet_stays, again_stays, shorter_stays, stays_auths, stays_reads, free_idle, free_unread}

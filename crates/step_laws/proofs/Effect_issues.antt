@@ -18,11 +18,11 @@ use Rattle.event_laws.proofs.By_does.{by_does, told_none, take_actors, take_issu
 use Rattle.definitions.specs.Control.{controls}
 use Rattle.definitions.specs.Fold.{account}
 use Rattle.definitions.specs.Zones.{zone_id}
-use Rattle.front_laws.proofs.Taken_counts.{answers, takes_some, cuts, none_taken}
+use Rattle.step_laws.proofs.Taken_counts.{answers, takes_some, cuts, none_taken}
 use Rattle.event_laws.proofs.Issued_all.{no_issue}
 use Rattle.event_laws.proofs.Admitted.{Admitted}
-use Rattle.invariant_laws.proofs.Invariant.{RequestTrue, Invariant}
-use Rattle.invariant_laws.proofs.Zone_only.{actor_zone}
+use Rattle.journey_laws.proofs.Invariant.{RequestTrue, Invariant}
+use Rattle.journey_laws.proofs.Zone_only.{actor_zone}
 use Rattle.event_laws.proofs.Zone_issues.{report_none, train_of, zone_other, world_none}
 use Rattle.step_laws.proofs.Issues.{Issues, quiet, cut, unanswered_quiet, entry_issues, ask_issues, time_issues, order_issues}
 use Rattle.step_laws.proofs.Effect_took_is.{effect_cut}

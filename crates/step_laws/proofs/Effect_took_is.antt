@@ -23,13 +23,13 @@ use Rattle.definitions.specs.Zones.{zone_id}
 use Rattle.event_laws.proofs.Entered_same.{number_most}
 use Rattle.event_laws.proofs.Issued_all.{NoAuth, no_issue}
 use Rattle.event_laws.proofs.Admitted.{Admitted}
-use Rattle.invariant_laws.proofs.Invariant.{RequestTrue, AuthIs, AuthTrue, Authorized}
-use Rattle.front_laws.proofs.Taken_counts.{answers, takes_some, cuts}
-use Rattle.front_laws.proofs.Fronts_numbers.{takes_by}
-use Rattle.authority_laws.proofs.Shrink_taken.{TakenNow}
+use Rattle.journey_laws.proofs.Invariant.{RequestTrue, AuthIs, AuthTrue, Authorized}
+use Rattle.step_laws.proofs.Taken_counts.{answers, takes_some, cuts}
+use Rattle.step_laws.proofs.Fronts_numbers.{takes_by}
+use Rattle.step_laws.proofs.Shrink_taken.{TakenNow}
 use Rattle.event_laws.proofs.Zone_issues.{world_none}
 use Rattle.event_laws.proofs.By_does.{by_does, take_actors, take_issued}
-use Rattle.invariant_laws.proofs.Zone_only.{actor_zone}
+use Rattle.journey_laws.proofs.Zone_only.{actor_zone}
 
 -- an authority that the world takes was issued
 pub record TakenIs (line : Line) (t : ℕ) (s : Story) (took : Option (ℕ × Msg)) : Type 0 where

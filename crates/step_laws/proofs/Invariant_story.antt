@@ -8,11 +8,11 @@ use Rattle.definitions.specs.Steps.{effects, story_of}
 use Rattle.event_laws.proofs.Admitted.{Admitted, admitted}
 use Rattle.journey_laws.proofs.Motion.{Timed, motion_start, motion_step, heads_grow}
 use Rattle.journey_laws.proofs.Timed_story.{timed_step, timed_story}
-use Rattle.invariant_laws.proofs.Invariant.{Invariant}
-use Rattle.invariant_laws.proofs.Journeys_stay.{journeys_start, journeys_stay}
+use Rattle.journey_laws.proofs.Invariant.{Invariant}
+use Rattle.journey_laws.proofs.Journeys_stay.{journeys_start, journeys_stay}
 use Rattle.step_laws.proofs.Authorized_step.{authorized_start, authorized_step, end_grows, end_cut}
-use Rattle.front_laws.proofs.Reports_step.{reports_start, reports_step}
-use Rattle.front_laws.proofs.Fronts_step.{fronts_start, fronts_step}
+use Rattle.step_laws.proofs.Reports_step.{reports_start, reports_step}
+use Rattle.step_laws.proofs.Fronts_step.{fronts_start, fronts_step}
 
 pub invariant_start : (line : Line) (t : ℕ) → Invariant line t []
 invariant_start line t = record {

@@ -33,18 +33,18 @@ use Rattle.journey_laws.proofs.Motion.{Motion}
 use Rattle.event_laws.proofs.Issued_all.{no_issue, NoAuth}
 use Rattle.way_laws.proofs.Reach_granted.{reach_granted}
 use Rattle.event_laws.proofs.Controls_same.{controls_knows, way_controls}
-use Rattle.invariant_laws.proofs.Invariant.{path_fits, FrontsAre, RequestTrue, Authorized}
+use Rattle.journey_laws.proofs.Invariant.{path_fits, FrontsAre, RequestTrue, Authorized}
 use Rattle.event_laws.proofs.Account_next.{fronts_acted}
-use Rattle.front_laws.proofs.Taken_counts.{answers, cuts, unanswered_takes}
-use Rattle.front_laws.proofs.Fronts_numbers.{Numbered, grown_to, fronts_unused}
-use Rattle.authority_laws.proofs.New_auth.{LongerAuth, AgainAuth, ShorterAuth}
-use Rattle.authority_laws.proofs.Shrink_taken.{TakenNow}
-use Rattle.authority_laws.proofs.Shorter_way.{shorter_way}
-use Rattle.authority_laws.proofs.Entry_new.{entry_new}
-use Rattle.invariant_laws.proofs.One_route.{path_parts}
-use Rattle.authority_laws.proofs.Way_is.{way_facts}
-use Rattle.authority_laws.proofs.Renewed_way.{way_fits, renewed_way}
-use Rattle.authority_laws.proofs.Granted_way.{granted_ready, grant_fits, granted_way}
+use Rattle.step_laws.proofs.Taken_counts.{answers, cuts, unanswered_takes}
+use Rattle.step_laws.proofs.Fronts_numbers.{Numbered, grown_to, fronts_unused}
+use Rattle.step_laws.proofs.New_auth.{LongerAuth, AgainAuth, ShorterAuth}
+use Rattle.step_laws.proofs.Shrink_taken.{TakenNow}
+use Rattle.step_laws.proofs.Shorter_way.{shorter_way}
+use Rattle.step_laws.proofs.Entry_new.{entry_new}
+use Rattle.journey_laws.proofs.One_route.{path_parts}
+use Rattle.step_laws.proofs.Way_is.{way_facts}
+use Rattle.step_laws.proofs.Renewed_way.{way_fits, renewed_way}
+use Rattle.step_laws.proofs.Granted_way.{granted_ready, grant_fits, granted_way}
 
 -- no authority of the train, one, or the answer by which its shrink counts as taken
 pub data Issues (line : Line) (t : ℕ) (s : Story) (x : Transition) : Type 0 where

@@ -22,12 +22,12 @@ use Rattle.event_laws.proofs.Entered_same.{entered_same}
 use Rattle.journey_laws.proofs.Motion.{Motion, head_on, head_next, place_grows, heads_grow, motion_step}
 use Rattle.event_laws.proofs.By_does.{effect_event}
 use Rattle.journey_laws.proofs.Head_step.{head_step, enter_once}
-use Rattle.invariant_laws.proofs.Invariant.{end_read, AuthorityIs, AuthIs, FirstIs, LimitIs, Authorized}
-use Rattle.invariant_laws.proofs.One_route.{first_end, portal_end}
-use Rattle.invariant_laws.proofs.First_steps.{end_same}
-use Rattle.authority_laws.proofs.Auths_stay.{AuthsStay, held_stays}
-use Rattle.authority_laws.proofs.Authority_stays.{Going}
-use Rattle.front_laws.proofs.Account_goes.{counted_rises, read_stays}
+use Rattle.journey_laws.proofs.Invariant.{end_read, AuthorityIs, AuthIs, FirstIs, LimitIs, Authorized}
+use Rattle.journey_laws.proofs.One_route.{first_end, portal_end}
+use Rattle.journey_laws.proofs.First_steps.{end_same}
+use Rattle.step_laws.proofs.Auths_stay.{AuthsStay, held_stays}
+use Rattle.step_laws.proofs.Authority_stays.{Going}
+use Rattle.step_laws.proofs.Account_goes.{counted_rises, read_stays}
 use Rattle.step_laws.proofs.Effect_took_is.{TookIs}
 
 -- a step moves a train to its limit at most

@@ -27,7 +27,7 @@ use Rattle.event_laws.proofs.Admitted.{Admitted}
 use Rattle.event_laws.proofs.By_does.{noise_issues}
 use Rattle.event_laws.proofs.Facts_stay.{facts_stay, first_stays, entered_stays}
 use Rattle.way_laws.proofs.Line_builds.{dir_same}
-use Rattle.invariant_laws.proofs.Invariant.{RequestTrue, EntryIs, AnswerIs}
+use Rattle.journey_laws.proofs.Invariant.{RequestTrue, EntryIs, AnswerIs}
 use Rattle.event_laws.proofs.Zone_issues.{zone_each}
 
 -- the last number never goes back

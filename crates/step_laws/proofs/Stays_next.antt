@@ -12,17 +12,17 @@ use Rattle.definitions.specs.Fronts.{least_rear}
 use Rattle.definitions.specs.Zones.{zone_id}
 use Rattle.event_laws.proofs.Issued_all.{AllIn, NoAuth, AuthHas}
 use Rattle.event_laws.proofs.Grant_takes.{quiet_grants}
-use Rattle.invariant_laws.proofs.Invariant.{AuthorityIs, SomeIs, Authorized}
-use Rattle.invariant_laws.proofs.First_steps.{FirstSteps, controlled_first}
-use Rattle.front_laws.proofs.Taken_counts.{Calm, counting, refusing, cuts}
-use Rattle.front_laws.proofs.Account_goes.{account_quiet, taken_calm}
-use Rattle.authority_laws.proofs.Authority_stays.{Going}
-use Rattle.authority_laws.proofs.Top_longest.{IsTop}
-use Rattle.authority_laws.proofs.New_auth.{AgainAuth, ShorterAuth}
-use Rattle.authority_laws.proofs.Longest_stays.{ShrinkStays, end_still, onward_still, reads_still}
-use Rattle.authority_laws.proofs.Last_stays.{top_taken, shrink_taken, quiet_issues, sent_first, sent_has, sent_calm, account_same, top_again, authority_again}
-use Rattle.authority_laws.proofs.Shorter_new.{idle_stays, top_still, authority_shorter, shrink_new}
-use Rattle.authority_laws.proofs.Auths_stay.{AuthsStay}
+use Rattle.journey_laws.proofs.Invariant.{AuthorityIs, SomeIs, Authorized}
+use Rattle.journey_laws.proofs.First_steps.{FirstSteps, controlled_first}
+use Rattle.step_laws.proofs.Taken_counts.{Calm, counting, refusing, cuts}
+use Rattle.step_laws.proofs.Account_goes.{account_quiet, taken_calm}
+use Rattle.step_laws.proofs.Authority_stays.{Going}
+use Rattle.step_laws.proofs.Top_longest.{IsTop}
+use Rattle.step_laws.proofs.New_auth.{AgainAuth, ShorterAuth}
+use Rattle.step_laws.proofs.Longest_stays.{ShrinkStays, end_still, onward_still, reads_still}
+use Rattle.step_laws.proofs.Last_stays.{top_taken, shrink_taken, quiet_issues, sent_first, sent_has, sent_calm, account_same, top_again, authority_again}
+use Rattle.step_laws.proofs.Shorter_new.{idle_stays, top_still, authority_shorter, shrink_new}
+use Rattle.step_laws.proofs.Auths_stay.{AuthsStay}
 
 -- what is known of such a transition
 pub record Stays (line : Line) (t : ℕ) (s : Story) (x : Transition) (k : Authorized line t s) : Type 0 where

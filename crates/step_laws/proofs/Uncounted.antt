@@ -19,12 +19,12 @@ use Rattle.definitions.specs.Fronts.{possible_front, is_used}
 use Rattle.definitions.specs.Steps.{effects}
 use Rattle.definitions.specs.Zones.{zone_id}
 use Rattle.event_laws.proofs.By_does.{took_issued}
-use Rattle.invariant_laws.proofs.Invariant.{ReportTrue, Invariant}
-use Rattle.front_laws.proofs.Fronts_numbers.{takes_by, fronts_numbers, fronts_unused}
-use Rattle.front_laws.proofs.Taken_counts.{answers, unanswered_takes}
-use Rattle.front_laws.proofs.Acts_count.{acts_unanswered}
-use Rattle.front_laws.proofs.Account_goes.{counted_taken}
-use Rattle.authority_laws.proofs.Authority_stays.{off_before}
+use Rattle.journey_laws.proofs.Invariant.{ReportTrue, Invariant}
+use Rattle.step_laws.proofs.Fronts_numbers.{takes_by, fronts_numbers, fronts_unused}
+use Rattle.step_laws.proofs.Taken_counts.{answers, unanswered_takes}
+use Rattle.step_laws.proofs.Acts_count.{acts_unanswered}
+use Rattle.step_laws.proofs.Account_goes.{counted_taken}
+use Rattle.step_laws.proofs.Authority_stays.{off_before}
 use Rattle.step_laws.proofs.Effect_took_is.{AnswersOn}
 
 module _ (line : Line) (s : Story) (e : Event) (t : ℕ) (invariant : Invariant line t s) (off : entered t s ≡ false) where

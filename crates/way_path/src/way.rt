@@ -17,7 +17,7 @@ use thiserror::Error;
 use track_points::{DirSeg, Path, PointSet, ZoneId};
 
 /// Why a way is refused.
-#[derive(Clone, Copy, PartialEq, Eq, Debug, Error)]
+#[derive(Clone, Copy, Debug, Error)]
 pub enum WayFault {
     /// The step of this index, from 0, does not follow the one before it. It is the first such step.
     #[error("a step does not follow the one before it")]

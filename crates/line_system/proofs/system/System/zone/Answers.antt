@@ -2,7 +2,7 @@ use Rattle.std.proofs.Common.{ℕ, reverse, refl, sym, subst, ◌∙◌}
 use Rattle.definitions.specs.Steps.{story_of}
 use Rattle.definitions.specs.Zones.{zone_id}
 use Rattle.zone_state.specs.Zone.{ZoneKept}
-use Rattle.invariant_laws.proofs.Zone_only.{zone_only}
+use Rattle.journey_laws.proofs.Zone_only.{zone_only}
 use Rattle.line_system.specs.History.{History}
 use Rattle.line_state.specs.State.{parts, tally}
 use Rattle.line_system.specs.Shows.{ShowsNotions}

@@ -1,9 +1,0 @@
-pub mod Segment_ranges
-pub mod Steps_fit
-pub mod Path_in_frame
-pub mod Offset_fits
-pub mod Facts_in_range
-pub mod Numbered_on
-pub mod Zone_fits
-pub mod Effect_fits
-pub mod Fits_story

@@ -1,2 +1,0 @@
-//! Each message that is issued is in its ranges, so that it has a frame.
-#![tactic(auto)]
