@@ -11,11 +11,11 @@ use Rattle.definitions.specs.declared.item.Item.{Item}
 use Rattle.definitions.specs.declared.item.Item.TheVariants.{Zone, Segment, Joint, Portal, Buffer, Brake, Silent}
 use Rattle.definitions.specs.Track.{Line, end_eq, uses, joins, is_portal, exit_of, entrance_of, zone_of, follows, begins_at_portal}
 use Rattle.definitions.specs.Rules.{rule_of, builds, is_line, joins_within}
-use Rattle.line_index.specs.declared.ends.EndUse.{EndUse}
-use Rattle.line_index.specs.declared.ends.EndUse.TheVariants.{Free, Joined}
-use Rattle.line_index.specs.declared.ends.EndUse.TheVariants as used
-use Rattle.line_index.specs.Uses.{first_use, is_free, use_in, use_of}
-use Rattle.line_index.proofs.Used_in.{free_in, used_in}
+use Rattle.line_map.specs.declared.ends.EndUse.{EndUse}
+use Rattle.line_map.specs.declared.ends.EndUse.TheVariants.{Free, Joined}
+use Rattle.line_map.specs.declared.ends.EndUse.TheVariants as used
+use Rattle.line_map.specs.Uses.{first_use, is_free, use_in, use_of}
+use Rattle.line_map.proofs.Used_in.{free_in, used_in}
 use Rattle.line_map.specs.Next.{after_item, after_end, after_use, joins_where, is_portal_use, FitsIds, FitsUse}
 use Rattle.line_map.proofs.Segment_ok.{absurd, and_left, and_right, zero_test, fine, all_fine, ids_fit}
 use Rattle.line_map.proofs.Next_after.{same_end, used_once, still_used}

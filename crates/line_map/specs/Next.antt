@@ -6,9 +6,9 @@ use Rattle.definitions.specs.declared.item.Item.{Item}
 use Rattle.definitions.specs.declared.item.Item.TheVariants.{Zone, Segment, Joint}
 use Rattle.definitions.specs.declared.item.Item.TheVariants as item
 use Rattle.definitions.specs.Track.{Line, end_eq, uses, flip, exit_of}
-use Rattle.line_index.specs.declared.ends.EndUse.{EndUse}
-use Rattle.line_index.specs.declared.ends.EndUse.TheVariants.{Free, Joined}
-use Rattle.line_index.specs.declared.ends.EndUse.TheVariants as used
+use Rattle.line_map.specs.declared.ends.EndUse.{EndUse}
+use Rattle.line_map.specs.declared.ends.EndUse.TheVariants.{Free, Joined}
+use Rattle.line_map.specs.declared.ends.EndUse.TheVariants as used
 use Rattle.line_map.specs.declared.line.After.{After}
 use Rattle.line_map.specs.declared.line.After.TheVariants.{Plain, Portal, Buffer}
 

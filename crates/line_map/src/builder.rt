@@ -4,10 +4,10 @@ ghost use Rattle.std.specs.List.{list_any};
 ghost use Rattle.definitions.specs.Rules.{is_any_zone};
 ghost use Rattle.line_map.specs.Building.{Adds, Finishes};
 
+use crate::index::LineIndex;
 use crate::line::Line;
 use crate::rules::{breaks, finish_breaks};
 use definitions::item::Item;
-use line_index::LineIndex;
 use std::alloc::{AllocError, Global};
 use std::marker::Model;
 use thiserror::Error;

@@ -6,10 +6,11 @@ ghost use Rattle.definitions.specs.Rules.{is_line};
 ghost use Rattle.line_map.specs.Order.{IsSegmentAt, IsZoneAt};
 ghost use Rattle.line_map.specs.Next.{after_of, after_use, is_portal_use, joins_where, step_in, AfterIs, FitsUse};
 
+use crate::ends::{EndUse, same_end, turned};
+use crate::index::LineIndex;
 use crate::order::{ascending, zone_number};
 use braking_table::Brake;
 use definitions::item::End;
-use line_index::{EndUse, LineIndex, same_end, turned};
 use std::alloc::{AllocError, Global};
 use std::marker::Model;
 use track_points::{DirSeg, SegId, ZoneId};

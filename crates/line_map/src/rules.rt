@@ -6,9 +6,10 @@ ghost use Rattle.definitions.specs.Track.{ranged, flip, zone_of};
 ghost use Rattle.line_map.specs.Next.{joins_where};
 ghost use Rattle.definitions.specs.Rules.{builds, rule_of, is_open, joins_within, is_bare, has_open, has_bare, finish_rule};
 
+use crate::ends::{EndUse, opposite, same_end};
+use crate::index::LineIndex;
 use braking_table::{Brake, Table};
 use definitions::item::{End, Item};
-use line_index::{EndUse, LineIndex, opposite, same_end};
 use track_points::Dir;
 
 fn in_range(lo: u64, hi: u64, n: u64) -> bool

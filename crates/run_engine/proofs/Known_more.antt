@@ -4,7 +4,7 @@ use Rattle.std.specs.Prelude.{is_some, if◌then◌else◌}
 use Rattle.std.specs.Option.{option_or}
 use Rattle.std.proofs.lemmas.List.{reverse-append, length-append, length-reverse}
 use Rattle.definitions.specs.EventFields.{has_train}
-use Rattle.world_trains.specs.Places.{place_of}
+use Rattle.world_sim.specs.Places.{place_of}
 
 pub known_none : (places xs : List ℕ) → ((id : ℕ) → place_of places id ≡ None) → xs ≡ [] → (id : ℕ) → is_some (place_of places id) ≡ has_train (reverse xs) id
 unfolding has_train

@@ -13,7 +13,7 @@ use line_map::Line;
 use std::alloc::{AllocError, Global};
 use std::marker::Model;
 use track_points::TrainId;
-use world_trains::places::TrainPlaces;
+use world_sim::places::TrainPlaces;
 
 /// The most trains that a script may declare.
 const TRAINS: usize = 256;
@@ -33,7 +33,7 @@ pub struct KnownTrains {
 impl Model for KnownTrains {
     ghost use Rattle.std.specs.Prelude.{ℕ, List, ◌≡◌, ◌≤◌, length, is_some, reverse, vec_capacity};
     ghost use Rattle.definitions.specs.EventFields.{has_train};
-    ghost use Rattle.world_trains.specs.Places.{place_of};
+    ghost use Rattle.world_sim.specs.Places.{place_of};
 
     ghost Value = { List ℕ };
 

@@ -2,3 +2,4 @@ mod Told
 mod Done
 mod Midway_more
 mod All_safe
+pub mod Under

@@ -24,7 +24,6 @@ fn command_of(words: &[String]) -> Option<Command>
     }
 }
 
-#[tactic(auto, using(crate::proofs::All_safe::all_safe, crate::proofs::All_safe::no_messages))]
 /// Runs the command that the words name.
 pub fn cbtc_top<S: Source, K: Sink, G: Gate + Sync>(
     alloc: Global,

@@ -15,7 +15,7 @@ use Rattle.plain_state.specs.declared.Head.{Head}
 use Rattle.plain_state.specs.declared.WorldTrain.{WorldTrain}
 use Rattle.plain_state.specs.World.{PlainWorld, find_train, with_trains, takes_at, takes_by, stop_now, took_by, took_auth, auth_fits, acted_on_by, world_take_effect, world_take_next}
 use Rattle.world_sim.specs.World.{is_train, answering}
-use Rattle.world_trains.specs.Trains.{verdict_by}
+use Rattle.world_sim.specs.Trains.{verdict_by}
 use Rattle.world_sim.proofs.Changed_is.{changed_is, put_same}
 
 decides : (len : Lengths) (stop number mark : ℕ) (path : Path) (h : Head) (o : Onboard) (time : ℕ) (t : TrainId) (from : ℕ)

@@ -15,9 +15,9 @@ use Rattle.definitions.specs.Premises.{ascending}
 use Rattle.plain_state.specs.declared.WorldTrain.{WorldTrain}
 use Rattle.plain_state.specs.World.{find_train, change_train}
 use Rattle.track_points.specs.declared.ids.TrainId.{TrainId}
-use Rattle.world_trains.specs.Places.{place_of}
+use Rattle.world_sim.specs.Places.{place_of}
 use Rattle.world_sim.specs.World.{is_train, ascends, AllOn, AreKept}
-use Rattle.world_trains.specs.Trains.{is_kept, IsTrainOn}
+use Rattle.world_sim.specs.Trains.{is_kept, IsTrainOn}
 
 -- nothing found, nothing changed
 none_found : (t : ℕ) (f : WorldTrain → WorldTrain) (xs : List WorldTrain) → find_train t xs ≡ None → change_train t f xs ≡ xs

@@ -21,7 +21,7 @@ use Rattle.plain_state.specs.Plain.{world_start}
 use Rattle.plain_state.specs.Admits.{world_reports, world_moves, world_stops, world_enters, world_premise, can_move_found, may_move_found}
 use Rattle.world_sim.specs.World.{ascends, AllOn, IsWorldOn, IsBuilt}
 use Rattle.world_sim.proofs.Changed_is.{more_on, changed_on, still, ascends_from}
-use Rattle.world_trains.proofs.Moves_on.{declares, asks, comes_on, moves_on, takes}
+use Rattle.world_sim.proofs.Moves_on.{declares, asks, comes_on, moves_on, takes}
 
 pub stops : (w : PlainWorld) (e : Event) → world_premise w e ≡ 0 → world_stops w e ≡ true
 stops w e h = by_test (world_reports w e)

@@ -15,8 +15,8 @@ use Rattle.onboard.specs.Decision.{decided}
 use Rattle.plain_state.specs.declared.Head.{Head}
 use Rattle.plain_state.specs.declared.WorldTrain.{WorldTrain}
 use Rattle.plain_state.specs.World.{new_train, head_at_entry, come_on, moved_on, moved_train, keeps_entry, took_by, acted_on_by}
-use Rattle.world_trains.specs.Trains.{is_numbered, is_kept, EntryIs}
-use Rattle.world_trains.proofs.Pace_most.{slower, pace_stops}
+use Rattle.world_sim.specs.Trains.{is_numbered, is_kept, EntryIs}
+use Rattle.world_sim.proofs.Pace_most.{slower, pace_stops}
 
 -- the parts of it
 pub record IsKept (x : WorldTrain) : Type 0 where

@@ -13,8 +13,8 @@ use Rattle.plain_state.specs.World.{PlainWorld}
 use Rattle.onboard.specs.declared.onboard.Verdict.{Verdict}
 use Rattle.onboard.specs.declared.onboard.Verdict.TheVariants.{Taken, Refused, Repeat}
 use Rattle.world_sim.specs.declared.world.Premise.{Premise}
-use Rattle.world_trains.specs.Places.{place_of}
-use Rattle.world_trains.specs.Trains.{is_kept, IsTrainOn}
+use Rattle.world_sim.specs.Places.{place_of}
+use Rattle.world_sim.specs.Trains.{is_kept, IsTrainOn}
 
 abbrev pub is_train : ℕ → WorldTrain → Bool
 is_train t x = nat_eq x.id.0 t

@@ -12,8 +12,13 @@ ghost use Rattle.plain_state.specs.World.{find_train, change_train, with_trains,
 ghost use Rattle.plain_state.specs.Plain.{world_start};
 ghost use Rattle.plain_state.specs.Admits.{world_reports, world_moves, world_stops, world_enters, hears_noise, world_premise, can_move_found, may_move_found};
 ghost use Rattle.world_sim.specs.World.{is_train, ascends, StepFits, IsBuilt, Admits, AllOn, IsWorldOn, answering};
-ghost use Rattle.world_trains.specs.Trains.{is_kept};
+ghost use Rattle.world_sim.specs.Trains.{is_kept};
 
+use crate::places::TrainPlaces;
+use crate::trains::{
+    ask_entry, come_on, declared, fits_line, is_same_portal, last_speed, move_on, reports,
+    take_authority,
+};
 use arrayvec::ArrayVec;
 use braking_table::Table;
 use definitions::event::Event;
@@ -29,11 +34,6 @@ use thiserror::Error;
 use track_points::path::copy_steps;
 use track_points::{DirSeg, Path, TrainId, ZoneId};
 use way_path::on_steps::zone_of;
-use world_trains::places::TrainPlaces;
-use world_trains::trains::{
-    ask_entry, come_on, declared, fits_line, is_same_portal, last_speed, move_on, reports,
-    take_authority,
-};
 
 /// The number of the least premise that an event breaks.
 #[derive(Clone, Copy, Debug, Error)]

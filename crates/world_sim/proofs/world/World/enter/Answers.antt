@@ -3,7 +3,7 @@ use Rattle.plain_state.specs.declared.WorldTrain.{WorldTrain}
 use Rattle.plain_state.specs.World.{come_on}
 use Rattle.world_sim.specs.World.{AllOn}
 use Rattle.world_sim.proofs.Changed_is.{found_is, found_on, absent, changed_is, unchanged, kept_is, kept_set}
-use Rattle.world_trains.proofs.Moves_on.{entry_fits}
+use Rattle.world_sim.proofs.Moves_on.{entry_fits}
 use Rattle.world_sim.proofs.Stays_kept.{not_numbered, comes_on_kept}
 use Rattle.world_sim.proofs.world.World.enter.Goals as goal
 

@@ -1,4 +1,0 @@
-pub mod Pace_most
-pub mod Stands_on
-pub mod Moves_on
-pub mod Unfit
